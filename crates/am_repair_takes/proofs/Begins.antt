@@ -1,14 +1,14 @@
 -- Where a lawful run ends that may be repaired, each member joined, by its sequencer's list, where its own list begins.
-use Rattle.am_repair.proofs.Repairable.RepairedWords.{◌≡◌, inl, either, ℕ, zero, suc, ◌+◌, ◌<◌, ◌≤◌, true, false, List, take, slice_get, Some, sym, ap, ◌∙◌, subst, arith, nat_tests, split_on_bool}
-use Rattle.am_repair.proofs.Repairable.RepairedWords.{Entry, Join, blank, Rules, MayFound, has, place_of_name, life_of_name, Event, IsBeginningOf, IsGoodList, is_member_at_end, Row, IsMemberRow, IsPastRow, WasMemberRow, row_of_place, row_at_place, image_after_entries, fits}
-use Rattle.am_repair.proofs.Repairable.RepairedWords.{beginning_of_good_is_good, shorter_beginning_begins_longer, taken_front_begins_list, length_of_taken_list, member_has_member_row, was_member_in_longer_list, lawful_front, MayRepair, World, current, run, whole}
-use Rattle.am_repair.proofs.Repairable.RepairedWords.{chain_of, image_of_whole_list, group_run_is_kept, lowest_name_or_zero, member_status_has_log, names_hold_in_runs, acting_member_promised_its_view, image_of_node, members, members_of_image, top, Image}
-use Rattle.am_repair.proofs.RepairWords.{cases_lt, slice_get_within, image_at_top_is_told, log_image_at, Repair}
+use Rattle.am_repair.proofs.Repairable.RepairedWords.{◌≡◌, inl, either, ℕ, zero, suc, ◌<◌, ◌≤◌, true, List, take, slice_get, Some, sym, ap, ◌∙◌, subst, arith, nat_tests, split_on_bool}
+use Rattle.am_repair.proofs.Repairable.RepairedWords.{Entry, Join, blank, Rules, MayFound, has, place_of_name, life_of_name, Event, IsBeginningOf, IsGoodList, is_member_at_end, WasMemberRow, row_of_place, row_at_place, fits}
+use Rattle.am_repair.proofs.Repairable.RepairedWords.{beginning_of_good_is_good, shorter_beginning_begins_longer, taken_front_begins_list, length_of_taken_list, member_has_member_row, was_member_in_longer_list, lawful_front, MayRepair, current, run, whole}
+use Rattle.am_repair.proofs.Repairable.RepairedWords.{chain_of, image_of_whole_list, group_run_is_kept, lowest_name_or_zero, member_status_has_log, names_hold_in_runs, acting_member_promised_its_view, image_of_node, members_of_image, Image}
+use Rattle.am_repair.proofs.RepairWords.{cases_lt, slice_get_within, image_at_top_is_told}
 use Rattle.am_base.specs.Whole.{image_of_list}
 use Rattle.am_group.specs.Journals.{item_at}
 use Rattle.am_node_defs.proofs.Lives.{entry_fits_at_its_number}
 use Rattle.am_lawful_runs.proofs.Lists.{item_stays_in_longer_list}
-use Rattle.am_refinement.proofs.Membership.Joins.{JoinedListAt, member_row_tells_its_join}
+use Rattle.am_refinement.proofs.Membership.Joins.{member_row_tells_its_join}
 use Rattle.am_safety.proofs.Holds.{kept_in_unbroken_run}
 use Rattle.am_repair.proofs.Known.Beginning.{repair_of_place}
 use Rattle.am_repair.proofs.Repairable.OneList.{lawful_events, current_name_is_below_256, sequencer_of_repair_runs, chain_of_views_is_whole}

@@ -1,11 +1,10 @@
 -- So many taking rounds of a quiet world: each member stores, accepts and takes all that its sequencer had, the sequencer trims it, and numbers
 -- one send more, if there is one.
-use Rattle.am_repair.proofs.RepairWords.{◌≡◌, ℕ, zero, suc, ◌+◌, ◌-◌, ◌*◌, ◌<◌, ◌≤◌, ◌==◌, true, false, [], length, refl, sym, ap, ◌∙◌, subst, arith, Image, Rules, has, Event, top, log_image_at}
+use Rattle.am_repair.proofs.RepairWords.{◌≡◌, ℕ, zero, suc, ◌+◌, ◌-◌, ◌*◌, ◌<◌, ◌≤◌, ◌==◌, true, false, [], length, sym, ap, ◌∙◌, subst, arith, Image, Rules, has, Event, top, log_image_at}
 use Rattle.am_repair.proofs.RepairWords.{World, happens, event_at, Act, Repair, HasCaughtUp}
 use Rattle.am_base.specs.Lists.{row_of_name}
 use Rattle.am_repair.proofs.Fine.{WorldKeepsLawsAndCalm, world_grows_by_own_event}
 use Rattle.am_repair.proofs.Saying.{RepairWorldGrows}
-use Rattle.am_repair.proofs.ThirdWave.{MemberHasStored}
 use Rattle.am_repair.proofs.Repaired.{AllMembersHaveStored}
 use Rattle.am_repair.proofs.Rounds.{world_after_waves, property_stays_through_round}
 use Rattle.am_repair_takes.specs.Taking.{IsTaking, ours, takes_one, after_rounds, HasAll}
@@ -14,7 +13,7 @@ use Rattle.am_repair_takes.proofs.Given.{takes_keep, takes_give}
 use Rattle.am_repair_takes.proofs.Rounds.{after_takes, many_rounds, rounds_are, all_have}
 use Rattle.am_repair_takes.proofs.Quiet.{QuietRun, fine_of, quiet_goes, kept_goes}
 use Rattle.am_repair_takes.proofs.TakenWaves.{round_tells_taken}
-use Rattle.am_repair_takes.proofs.RoundTrims.{MayTrim, Trimmed, round_trims}
+use Rattle.am_repair_takes.proofs.RoundTrims.{Trimmed, round_trims}
 use Rattle.am_repair_takes.proofs.RoundNumbers.{GoneOn, round_numbers}
 use Rattle.am_repair_takes.proofs.Starts.{Starts, starts_settle_rows}
 

@@ -1,9 +1,9 @@
 -- In every run a node's own row counts sends that stand in its list: the last of them stands there, later than where the row says that it joined.
-use Rattle.am_step_laws.proofs.Words.{◌≡◌, ◌≢◌, ◌⊎◌, inl, inr, ℕ, ◌+◌, ◌-◌, ◌<◌, ◌≤◌, ◌==◌, ◌&&◌, not, nat_lt, Bool, true, false, List, [], ◌∷◌, length}
-use Rattle.am_step_laws.proofs.Words.{Some, None, refl, sym, ap, ◌∙◌, subst, arith, split_on_bool, nat_tests, if◌then◌else◌, length-append}
+use Rattle.am_step_laws.proofs.Words.{◌≡◌, ◌≢◌, ◌⊎◌, inl, inr, ℕ, ◌+◌, ◌<◌, ◌≤◌, ◌==◌, ◌&&◌, not, nat_lt, Bool, true, false, List, [], ◌∷◌, length}
+use Rattle.am_step_laws.proofs.Words.{Some, refl, sym, ap, ◌∙◌, subst, arith, split_on_bool, nat_tests, if◌then◌else◌, length-append}
 use Rattle.am_step_laws.proofs.Words.{Entry, Data, Join, Leave, View, Row, Image, Outcome, Rules, MayFound, place_of_name, life_of_name, blank, blank_row, row_at_place, is_blank_image}
-use Rattle.am_step_laws.proofs.Words.{row_of_name, after, Log, image_of_log, Node, Ballot, Event, image_of_node, push_entry, top, is_sequencer}
-use Rattle.am_step_laws.proofs.Words.{BallotVerdict, refresh, settle_waiting_send, refresh_at_end, StepResult, World, start, founder, stranger_node, world_with_step, run, Cause, hears, LooksAtBallot, decides}
+use Rattle.am_step_laws.proofs.Words.{row_of_name, after, Log, Node, Ballot, Event, image_of_node, push_entry, top}
+use Rattle.am_step_laws.proofs.Words.{BallotVerdict, refresh, settle_waiting_send, refresh_at_end, StepResult, World, start, founder, stranger_node, world_with_step, run, Cause, LooksAtBallot, decides}
 use Rattle.am_step_laws.proofs.Words.{Change, refreshes, settles, numbers, stores, begins_list, looks, fetches, stores_view, closes, Changes, unchanged, changed, Effect, acting_name, IsCause, refresh_changes_only_fronts}
 use Rattle.am_step_laws.proofs.Words.{slice_index, image_after_entries, get_or-replicate, mod_sixteen_lt, image_of_pushed_entry, log_entry_at, world_with_record, world_after_events, EventHappens, happens, steps, events_have_effects, settle_changes_only_sends}
 use Rattle.am_base.proofs.Rows.{row_of_place, row_of_with_row, row_after_pushed_view, place_and_life_give_name}
@@ -14,7 +14,7 @@ use Rattle.am_node_defs.proofs.Lives.{UnusedPlacesHaveNoLife}
 use Rattle.am_node_defs.specs.Sends as own
 use Rattle.am_node_defs.specs.Sends.{unsettled_sends_are_in_line}
 use Rattle.am_model.specs.Node.{own_row, founders_entry}
-use Rattle.am_step_laws.proofs.Trimming.Trims.{NodeTrimFronts, told_image_is_used}
+use Rattle.am_step_laws.proofs.Trimming.Trims.{told_image_is_used}
 use Rattle.am_step_laws.proofs.Trimming.TakenRuns.{TrimsOnlyTakenAlongStep, changes_trim_only_taken, WorldTrimsOnlyTaken, events_trim_only_taken, each_node_trims_only_taken, heard_welcome_image_is_used, start_trims_only_taken}
 use Rattle.am_step_laws.proofs.Views.{heard_stamps_have_names}
 use Rattle.am_step_laws.proofs.ViewNames.{HeardStampsHaveNames}
@@ -177,7 +177,7 @@ stands_pushed m e used h =
     by : (own_row (push_entry m e)).joined ≡ (row_of_name (after (image_of_node m) (top m + 1) e) m.core.who).joined
         → (own_row (push_entry m e)).last ≡ (row_of_name (after (image_of_node m) (top m + 1) e) m.core.who).last → top (push_entry m e) ≡ top m + 1
         → RowStays (top m + 1) (life_of_name m.core.who) (row_of_place (image_of_node m) (place_of_name m.core.who))
-            (row_of_place (after (image_of_node m) (top m + 1) e) (place_of_name m.core.who))
+        (row_of_place (after (image_of_node m) (top m + 1) e) (place_of_name m.core.who))
         → OwnRowStands (push_entry m e)
     by joined last more (stays j l) =
         let within = h.within in

@@ -1,29 +1,25 @@
 -- Where a lawful run ends that may be repaired and in which nobody asks to join, all that its members sent is answered after so many taking
 -- rounds.
-use Rattle.am_repair.proofs.RepairWords.{◌≡◌, ◌≢◌, ℕ, ◌+◌, ◌-◌, ◌*◌, ◌/◌, ◌<◌, ◌≤◌, ◌==◌, true, false, List, [], ◌∷◌, length, Some, None, refl, sym, ap, ◌∙◌, subst, arith, nat_tests, nat_lt, both_of_and, split_on_bool, eqb-true}
-use Rattle.am_repair.proofs.RepairWords.{Rules, MayFound, has, names_of, Event, Node, top, members, image_of_node, step, Letter, letter_at, World, current, run, Repair, MayRepair, told_image_is_used, image_at_top_is_told, log_image_at, log_members_at, members_of_image}
-use Rattle.am_repair.proofs.RepairWords.{Image, row, finish}
+use Rattle.am_repair.proofs.RepairWords.{◌≡◌, ℕ, ◌+◌, ◌*◌, ◌/◌, ◌<◌, ◌==◌, true, false, List, [], ◌∷◌, Some, None, refl, sym, ap, ◌∙◌, subst, arith, nat_lt, both_of_and, split_on_bool, eqb-true}
+use Rattle.am_repair.proofs.RepairWords.{Rules, MayFound, Event, Node, top, image_of_node, step, World, current, run, MayRepair, told_image_is_used, image_at_top_is_told, log_image_at, log_members_at, members_of_image}
+use Rattle.am_repair.proofs.RepairWords.{row, finish}
 use Rattle.am_group_defs.specs.Lawful.{lawful_front}
 use Rattle.am_step_laws.proofs.Words.{find, length-map, OwnSend, Option, done_row, member_life_of_row}
-use Rattle.am_base.specs.declared.event.NodeEvent.TheVariants as does
 use Rattle.am_base.specs.declared.outcome.Outcome.TheVariants as said
 use Rattle.am_node_defs.specs.Sends as own
 use Rattle.am_node_defs.specs.Sends.{unsettled_sends_are_in_line, next_unsettled_request, is_unsettled, send_has_request}
 use Rattle.am_node_defs.proofs.Lines.{waiting_request_le_last, next_in_line_is_waiting}
 use Rattle.am_repair.proofs.Schedules.{letter_number_le_length}
-use Rattle.am_repair.proofs.Fine.{WorldKeepsLawsAndCalm, member_of_repair_is_small}
+use Rattle.am_repair.proofs.Fine.{member_of_repair_is_small}
 use Rattle.am_repair.proofs.Known.Beginning.{repair_of_place, repairable_run_is_calm}
-use Rattle.am_repair.proofs.Repaired.{AllMembersHaveStored}
 use Rattle.am_repair.proofs.Repairable.RepairedSettled.{repairable_lists_agree}
 use Rattle.am_repair.proofs.Answered.Outs.{run_sends_have_gone_out}
 use Rattle.am_group_defs.specs.Settle.{round_count}
 use Rattle.am_repair_takes.specs.Taking.{after_rounds}
 use Rattle.am_repair_takes.specs.Resting.{NobodyAsks, unnumbered_in}
 use Rattle.am_repair_takes.specs.Rest.{HasNoPending, SendsAreAnswered}
-use Rattle.am_repair_takes.specs.Quiet.{Quiet}
 use Rattle.am_repair_takes.proofs.Rounds.{many_rounds, rounds_are}
 use Rattle.am_repair_takes.proofs.Quiet.{QuietRun}
-use Rattle.am_repair_takes.proofs.Starts.{Starts}
 use Rattle.am_repair_takes.proofs.Begins.{starts_first}
 use Rattle.am_repair_takes.proofs.Blocks.{Stands, stands_stays, stays_rounds}
 use Rattle.am_repair_takes.proofs.RestRounds.{AllSettled, rests}

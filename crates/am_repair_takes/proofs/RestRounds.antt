@@ -1,19 +1,19 @@
 -- After so many taking rounds of a quiet world each send of its members is numbered and settled: by how many aren't numbered.
-use Rattle.am_repair.proofs.RepairWords.{◌≡◌, ◌⊎◌, inl, inr, either, ℕ, zero, suc, ◌+◌, ◌-◌, ◌*◌, ◌<◌, ◌≤◌, ◌==◌, nat_le, Bool, true, false, List, [], ◌∷◌, length, refl, sym, ap, ◌∙◌, subst, arith}
-use Rattle.am_repair.proofs.RepairWords.{nat_tests, split_on_bool, eqb-true, Image, Rules, has, names_of, top, log_image_at, image_at_top_is_told, image_of_node, World, Repair}
+use Rattle.am_repair.proofs.RepairWords.{◌≡◌, ◌⊎◌, inl, inr, either, ℕ, zero, suc, ◌+◌, ◌-◌, ◌*◌, ◌<◌, ◌≤◌, nat_le, true, false, List, [], ◌∷◌, length, refl, sym, ap, ◌∙◌, subst, arith}
+use Rattle.am_repair.proofs.RepairWords.{nat_tests, Image, Rules, has, names_of, top, log_image_at, image_at_top_is_told, image_of_node, World, Repair}
 use Rattle.std.specs.List.{sum_by}
 use Rattle.std.proofs.lemmas.List.Sums.{sum_by-cons}
 use Rattle.am_base.specs.Lists.{row_of_name, image_of_log}
 use Rattle.am_node_defs.specs.Sends as own
 use Rattle.am_model.specs.Node.{own_row}
-use Rattle.am_repair_takes.specs.Quiet.{Quiet, raised}
+use Rattle.am_repair_takes.specs.Quiet.{raised}
 use Rattle.am_repair_takes.specs.Resting.{count_of_unnumbered_sends}
 use Rattle.am_repair_takes.proofs.Rounds.{many_rounds}
 use Rattle.am_repair_takes.proofs.Sums.{names_all, set_falls, sums_low, find_one}
 use Rattle.am_repair_takes.proofs.Quiet.{QuietRun}
 use Rattle.am_repair_takes.proofs.Raised.{quiet_is_raised}
 use Rattle.am_repair_takes.proofs.Starts.{Starts, starts_settle, starts_raised, told_there}
-use Rattle.am_repair_takes.proofs.Blocks.{Stands, Caught, stands_stays, stays_rounds, caught_after, three_rounds, rounds_in_turn}
+use Rattle.am_repair_takes.proofs.Blocks.{Caught, caught_after, three_rounds, rounds_in_turn}
 
 -- ---- sums
 

@@ -1,9 +1,9 @@
 -- In a quiet world whose sequencer's list is all trimmed, one round numbers one send more: a member's tick hands its waiting send in, and the
 -- sequencer numbers it in the first wave, or another; the sequencer's own gets its number at its tick.
-use Rattle.am_repair.proofs.RepairWords.{◌≡◌, ◌⊎◌, inl, inr, either, ℕ, ◌+◌, ◌<◌, ◌≤◌, ◌==◌, nat_lt, Bool, true, false, List, length, Option, Some, None, refl, sym, ap, ◌∙◌, subst, arith}
+use Rattle.am_repair.proofs.RepairWords.{◌≡◌, ◌⊎◌, inl, inr, either, ℕ, ◌+◌, ◌<◌, ◌≤◌, ◌==◌, nat_lt, true, false, List, length, Option, Some, None, refl, sym, ap, ◌∙◌, subst, arith}
 use Rattle.am_repair.proofs.RepairWords.{split_on_bool, eqb-true, nat_tests, cases_lt, Stamp, Report, Image, Rules, place_of_name, has, Packet, Letter, Event, is_for, letter_at, OwnSend}
-use Rattle.am_repair.proofs.RepairWords.{IsOurs, Node, top, view, members, image_of_node, acts_in_its_view, is_sequencer, has_room, waiting_send_of, own_report_of, would_emit_send, step, hear_packet, event_at, running_places, ticks_of_places}
-use Rattle.am_repair.proofs.RepairWords.{hearings, World, run, happens, world_after_events, Act, told_image_is_used, image_at_top_is_told, log_image_at, PacketIsReport, Repair, LeadsCalmly, FollowsView, IsSentAfter, our_ticks, hears_}
+use Rattle.am_repair.proofs.RepairWords.{IsOurs, Node, top, view, image_of_node, acts_in_its_view, is_sequencer, has_room, waiting_send_of, own_report_of, would_emit_send, step, hear_packet, event_at, running_places}
+use Rattle.am_repair.proofs.RepairWords.{hearings, World, happens, world_after_events, Act, told_image_is_used, image_at_top_is_told, log_image_at, PacketIsReport, Repair, IsSentAfter, our_ticks, hears_}
 use Rattle.std.specs.Prelude.{is_some}
 use Rattle.am_base.specs.Lists.{row_of_name}
 use Rattle.am_base.specs.declared.event.NodeEvent.TheVariants as does
@@ -15,17 +15,17 @@ use Rattle.am_repair.proofs.Answered.Lined.{next_request_if_none_waits}
 use Rattle.am_repair.proofs.Nodes.{acting_member_promised_its_view, sequencer_acts_by_own_view, other_name_is_not_sequencer}
 use Rattle.am_repair.proofs.RepairLeading.{repair_member_is_member_now}
 use Rattle.am_repair.proofs.Ticking.{letter_stays_sent_by_event, letter_of_step_is_sent, node_after_step_of_event, running_name_is_in_running}
-use Rattle.am_repair.proofs.Schedules.{ActBringsProperty, acts_bring_property, WaveBringsProperty, wave_brings_property}
-use Rattle.am_repair.proofs.Fine.{WorldKeepsLawsAndCalm, world_grows_by_own_event, letters_grow_by_event, member_of_repair_is_small, member_of_repair_runs_now}
+use Rattle.am_repair.proofs.Schedules.{acts_bring_property, WaveBringsProperty, wave_brings_property}
+use Rattle.am_repair.proofs.Fine.{world_grows_by_own_event, letters_grow_by_event, member_of_repair_is_small, member_of_repair_runs_now}
 use Rattle.am_repair.proofs.Fine.{tick_of_running_name_steps, hearing_of_running_name_steps}
 use Rattle.am_repair.proofs.FirstWave.{sequencer_hears_its_members, member_name_is_not_unknown, LettersStayInWorld, letters_stay_in_same_world, letters_stay_by_event, sent_letter_is_heard}
 use Rattle.am_repair.proofs.FirstWave.{report_of_calm_packet, calm_report_fits_list}
-use Rattle.am_repair.proofs.Rounds.{world_after_ticks, world_after_waves, StaysThroughSchedule, property_stays_through_ticks, property_stays_through_wave, property_stays_through_later_waves}
+use Rattle.am_repair.proofs.Rounds.{world_after_ticks, world_after_waves, StaysThroughSchedule, property_stays_through_wave, property_stays_through_later_waves}
 use Rattle.am_repair_takes.specs.Taking.{IsTaking, ours}
 use Rattle.am_repair_takes.specs.Numbering.{PacketIsSend, request, spread}
 use Rattle.am_repair_takes.proofs.Quiet.{QuietRun, fine_of, laws_of, numbered_of, quiet_goes, kept_goes}
 use Rattle.am_repair_takes.proofs.Stands.{member_stays}
-use Rattle.am_repair_takes.proofs.TakenWaves.{lists_leader, quiet_stable}
+use Rattle.am_repair_takes.proofs.TakenWaves.{lists_leader}
 use Rattle.am_repair_takes.proofs.Numbering.{members_hand_in, next_sends_are_numbered, own_sends_are_numbered}
 
 -- ---- what is settled

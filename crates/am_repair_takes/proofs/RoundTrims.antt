@@ -1,7 +1,7 @@
 -- A taking round of a quiet world keeps it quiet; and where the sequencer has accepted all, and knows that each member has taken it, a round
 -- trims its list up to there.
-use Rattle.am_repair.proofs.RepairWords.{◌≡◌, ℕ, ◌≤◌, ◌==◌, true, false, length, sym, ap, subst, arith, has, place_of_name, Rules, Event, event_at, Act, top}
-use Rattle.am_repair.proofs.RepairWords.{World, happens, world_after_events, running_places, ticks_of_places, hearings, step, Repair, our_ticks}
+use Rattle.am_repair.proofs.RepairWords.{◌≡◌, ℕ, ◌≤◌, ◌==◌, true, false, length, ap, arith, has, place_of_name, Rules, event_at, Act}
+use Rattle.am_repair.proofs.RepairWords.{World, happens, world_after_events, running_places, ticks_of_places, step, Repair, our_ticks}
 use Rattle.am_base.specs.declared.event.NodeEvent.TheVariants as does
 use Rattle.am_repair.proofs.Schedules.{ActBringsProperty, acts_bring_property}
 use Rattle.am_repair.proofs.Ticking.{node_after_step_of_event, running_name_is_in_running}

@@ -1,7 +1,7 @@
 -- While a schedule runs, a member that has stored and accepted all that its sequencer had has settled all of its own sends that stand there.
-use Rattle.am_repair.proofs.RepairWords.{◌≡◌, ◌≢◌, inl, inr, either, ℕ, zero, suc, ◌+◌, ◌-◌, ◌<◌, ◌≤◌, ◌==◌, ◌&&◌, ◌||◌, not, nat_lt, true, false, List, [], ◌∷◌, length, Some, None, refl, sym, ap, ◌∙◌, subst, arith}
-use Rattle.am_repair.proofs.RepairWords.{split_on_bool, eqb-true, eq-eqb, nat_tests, cases_lt, take, Row, Image, Log, top_of_log, log_entry_at, log_image_at, log_members_at, members_of_image, Data, Entry, Rules, MayFound, has}
-use Rattle.am_repair.proofs.RepairWords.{place_of_name, life_of_name, Event, Outcome, Node, top, image_of_node, step, World, run, happens, world_with_step, event_at, Act, image_at_top_is_told, image_after_entries, after, fits}
+use Rattle.am_repair.proofs.RepairWords.{◌≡◌, ◌≢◌, inl, inr, either, ℕ, zero, suc, ◌+◌, ◌-◌, ◌<◌, ◌≤◌, ◌==◌, ◌&&◌, ◌||◌, not, nat_lt, true, false, List, [], ◌∷◌, Some, None, refl, sym, ap, ◌∙◌, subst, arith}
+use Rattle.am_repair.proofs.RepairWords.{split_on_bool, eqb-true, eq-eqb, nat_tests, cases_lt, take, Row, Image, Log, top_of_log, log_entry_at, log_image_at, members_of_image, Data, Entry, Rules, MayFound, has}
+use Rattle.am_repair.proofs.RepairWords.{place_of_name, life_of_name, Event, Outcome, Node, top, image_of_node, step, World, run, happens, world_with_step, image_at_top_is_told, image_after_entries, fits}
 use Rattle.am_repair.proofs.RepairWords.{has_log_by_status, is_member, both_of_and, Repair, acting_name, refresh_rests_with_list, end_refresh_rests_with_list, settle_changes_only_sends, push_entry, Leave, events_have_effects}
 use Rattle.am_step_laws.proofs.Words.{find, item_of_index_has_property, entry_at_number_of_log, OwnSend, Change, Changes, changed, unchanged, refreshes, settles, begins_list, looks, asks_to_join, departs, closes, Cause, LooksAtBallot, Ballot}
 use Rattle.am_step_laws.proofs.Words.{BallotVerdict, finds_itself_out, EventHappens, steps, world_with_record, is_asking_status, asking_status_has_no_log, member_status_has_log, row, done_row, finish, blank_row, row_at_place, row_of_name, member_life_of_row, min, Option}
@@ -24,7 +24,7 @@ use Rattle.am_repair_takes.specs.Quiet.{GoesOnBySends, raised}
 use Rattle.am_repair_takes.proofs.Calm.{take_goes}
 use Rattle.am_repair_takes.proofs.Given.{entry_there, member_status}
 use Rattle.am_repair_takes.proofs.Quiet.{QuietRun, fine_of}
-use Rattle.am_repair_takes.proofs.OwnSends.{OwnSendsStand, LastStands, run_own_sends_stand}
+use Rattle.am_repair_takes.proofs.OwnSends.{LastStands, run_own_sends_stand}
 use Rattle.am_repair_takes.proofs.RoundNumbers.{SettlesRows}
 
 -- ---- a member's row
