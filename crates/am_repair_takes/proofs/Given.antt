@@ -29,7 +29,7 @@ takes_keep P keep w h = at_keep P keep w (running_places w) w h
 
 -- ---- one Take
 
-entry_there : (log : Log) (number : ℕ) → log.start < number → number ≤ top_of_log log → (e : Entry) × (log_entry_at log number ≡ Some e)
+pub entry_there : (log : Log) (number : ℕ) → log.start < number → number ≤ top_of_log log → (e : Entry) × (log_entry_at log number ≡ Some e)
 entry_there log number low high =
     let k = number - log.start - 1 in
     (get_or log.entries k (Join 0), entry_at_number_of_log log number k (omega arith) ∙ slice_get-get_or log.entries k (Join 0) (omega arith))
@@ -60,7 +60,7 @@ take_event w name h =
     let same : place_of_name (place_of_name name) ≡ place_of_name name = omega arith in
     ap (λ x. world_after_node_event w e x does.Take) (ap (current w) same ∙ h.current_) ∙ rw (h.runs) refl
 
-member_status : (r : Repair) (rules : Rules) (w : World) (i : ℕ) → WorldKeepsLawsAndCalm rules r w → has r.members i ≡ true → is_member (w.nodes i).status ≡ true
+pub member_status : (r : Repair) (rules : Rules) (w : World) (i : ℕ) → WorldKeepsLawsAndCalm rules r w → has r.members i ≡ true → is_member (w.nodes i).status ≡ true
 member_status r rules w i h there = split_on_bool (i == r.by)
     (λ t. let same = eqb-true i r.by t in
     let q = (acting_member_promised_its_view (w.nodes r.by) (sequencer_acts_by_own_view (w.nodes r.by) h.calm.leads.leads).0).0 in

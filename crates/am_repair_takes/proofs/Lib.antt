@@ -12,3 +12,11 @@ pub mod Raised
 pub mod TakenWaves
 pub mod Trims
 pub mod Numbering
+pub mod RoundTrims
+pub mod RoundNumbers
+pub mod OwnSends
+pub mod Starts
+pub mod Begins
+pub mod Blocks
+pub mod RestRounds
+pub mod Rest

@@ -1,11 +1,10 @@
 -- A member's tick hands its waiting send in, and the sequencer numbers what comes next, where it has room.
-use Rattle.am_repair.proofs.RepairWords.{◌≡◌, ℕ, ◌+◌, ◌-◌, ◌==◌, not, nat_lt, nat_le, Bool, true, false, if◌then◌else◌, List, length, Option, Some, refl, sym, ap, ◌∙◌, subst, arith}
+use Rattle.am_repair.proofs.RepairWords.{◌≡◌, ℕ, ◌+◌, ◌==◌, not, nat_lt, nat_le, Bool, true, false, if◌then◌else◌, List, length, Option, Some, refl, sym, ap, ◌∙◌, subst, arith}
 use Rattle.am_repair.proofs.RepairWords.{Contains, nat_tests, length-append, Report, Log, top_of_log, Data, Outcome, has, Packet, letter_to, Letter, OwnSend, Node, top, view, members, other_members}
 use Rattle.am_repair.proofs.RepairWords.{set_of_one_name, acts_in_its_view, is_sequencer, has_room, waiting_send_of, push_entry, own_report_of, report_fits, node_with_report, refresh_at_end, Plan, plan_with_letter, request_packet_of, spread_packet_of}
 use Rattle.am_repair.proofs.RepairWords.{finish, step, row, would_emit_send, hand_in_send, emit_waiting_send, tick_row, tick_of_follower, with_result_told_again, tick_outcome_of_waiting_send, both_of_and, hear_packet, hears_packet_of_its_view, hear_row, has_no_join, take_report}
 use Rattle.am_repair.proofs.RepairWords.{answer_request, request_row, refresh_rests_with_list, end_refresh_rests_with_list}
 use Rattle.am_base.specs.declared.outcome.Outcome.TheVariants as said
-use Rattle.am_base.specs.declared.event.NodeEvent.TheVariants as does
 use Rattle.am_base.specs.Lists.{row_of_name, image_of_log}
 use Rattle.am_model.specs.Sequencing.{row_of_name_in_list}
 use Rattle.am_step_laws.proofs.Words.{refresh_changes_only_fronts}

@@ -7,7 +7,7 @@ use Rattle.am_repair.proofs.RepairWords.{Image, Log, top_of_log, image_of_log, m
 use Rattle.am_repair.proofs.RepairWords.{image_at_top_is_told, slice_get_of_append_back, Node, Ballot, image_of_node, members, push_entry, is_sequencer, is_asking_status, has_departed, other_members, size}
 use Rattle.am_repair.proofs.RepairWords.{accept_packet_of, sends_accept, Plan, plan_without_letters, finish, step, row, refresh, refresh_at_end, settle_waiting_send, refresh_as_sequencer, raise_own_report, tell_accept_front, advance_with_reports}
 use Rattle.am_repair.proofs.RepairWords.{trim_to_least_taken, raise_accepted_to_told, pass_over_below_join, CoreState, Stamp, Report, Outcome, BallotVerdict, StepResult, World, is_stopped, run, start, happens, world_after_events}
-use Rattle.am_repair.proofs.RepairWords.{world_with_record, world_with_step, event_at, runs_go_on, Cause, calls, hears, LooksAtBallot, IsNumberedBy, asked_send, own_send}
+use Rattle.am_repair.proofs.RepairWords.{world_with_record, world_with_step, event_at, runs_go_on, Cause, calls, LooksAtBallot, IsNumberedBy, asked_send, own_send}
 use Rattle.am_repair.proofs.RepairWords.{asked_join, asked_leave, Change, refreshes, settles, takes_report, admits, numbers, keeps_body, notes, stores, begins_list}
 use Rattle.am_repair.proofs.RepairWords.{departs, promises, opens, looks, fetches, stores_view, queues, collects, takes, asks_to_join, asks_to_leave, closes}
 use Rattle.am_repair.proofs.RepairWords.{invited, overtaken, told_result, Changes, no_change, changed, settle_changes_only_sends, refresh_rests_with_list, end_refresh_rests_with_list, stamp_eq_gives_equality, acting_name, IsCause}

@@ -12,16 +12,16 @@ use Rattle.am_repair_takes.proofs.Given.{takes_keep, takes_give}
 abbrev pub after_takes : World → World
 after_takes w = world_after_events w (takes w)
 
-many_rounds : ℕ → World → World
+unfoldable pub many_rounds : ℕ → World → World
 many_rounds zero w = w
 many_rounds (suc k) w = many_rounds k (world_after_waves (after_takes w))
 
-more_rounds : (k : ℕ) (w : World) → many_rounds (suc k) w ≡ world_after_waves (after_takes (many_rounds k w))
+pub more_rounds : (k : ℕ) (w : World) → many_rounds (suc k) w ≡ world_after_waves (after_takes (many_rounds k w))
 unfolding many_rounds
 more_rounds zero w = refl
 more_rounds (suc k) w = more_rounds k (world_after_waves (after_takes w))
 
-rounds_are : (k : ℕ) (s : Settling) → (taking_rounds k s).world ≡ many_rounds k s.world
+pub rounds_are : (k : ℕ) (s : Settling) → (taking_rounds k s).world ≡ many_rounds k s.world
 unfolding taking_rounds many_rounds
 rounds_are zero s = refl
 rounds_are (suc k) s = rounds_are k (taking_round s) ∙ ap (many_rounds k) (round_world_is_after_waves (settle_then s (takes s.world)))

@@ -1,13 +1,13 @@
 -- In every run what is settled of a node's own sends stands in its list: the next request is at most one above the last of its own row.
-use Rattle.am_step_laws.proofs.Words.{◌≡◌, inl, inr, ℕ, zero, suc, ◌+◌, ◌-◌, ◌<◌, ◌≤◌, ◌==◌, ◌&&◌, not, nat_lt, Bool, true, false, List, [], ◌∷◌, ◌++◌, drop, take}
+use Rattle.am_step_laws.proofs.Words.{◌≡◌, inl, inr, ℕ, ◌+◌, ◌-◌, ◌<◌, ◌≤◌, ◌==◌, ◌&&◌, not, nat_lt, Bool, true, false, List, [], ◌∷◌, drop, take}
 use Rattle.am_step_laws.proofs.Words.{Some, None, slice_get, refl, sym, ap, ◌∙◌, subst, arith, split_on_bool, nat_tests, All, All-nil, All-cons, All-append, All-weaker, if◌then◌else◌}
 use Rattle.am_step_laws.proofs.Words.{Entry, Data, Join, Leave, View, Row, Image, Outcome, Rules, MayFound, place_of_name, life_of_name, has, blank, blank_row, row_at_place, is_blank_image}
-use Rattle.am_step_laws.proofs.Words.{row_of_name, members_of_image, after, fits, image_after_entries, Log, image_of_log, OwnSend, Node, Ballot, Event, image_of_node, members, push_entry, waiting_send_of, is_sequencer, top}
+use Rattle.am_step_laws.proofs.Words.{row_of_name, members_of_image, after, fits, image_after_entries, Log, image_of_log, OwnSend, Node, Ballot, Event, image_of_node, members, push_entry, top}
 use Rattle.am_step_laws.proofs.Words.{BallotVerdict, refresh, settle_waiting_send, refresh_at_end, StepResult, World, start, founder, stranger_node, world_with_step, run, Cause, LooksAtBallot, decides}
-use Rattle.am_step_laws.proofs.Words.{finds_itself_out, IsNumberedBy, asked_send, own_send, asked_join, asked_leave, Change, refreshes, settles, numbers, stores, begins_list}
+use Rattle.am_step_laws.proofs.Words.{IsNumberedBy, asked_send, own_send, asked_join, asked_leave, Change, refreshes, settles, numbers, stores, begins_list}
 use Rattle.am_step_laws.proofs.Words.{looks, fetches, stores_view, queues, collects, closes, Changes, unchanged, changed, Effect, acting_name, IsCause, refresh_changes_only_fronts}
-use Rattle.am_step_laws.proofs.Words.{has_member_is_in_row, row_at_place_of_image, mod_sixteen_lt, image_of_pushed_entry, get_or-replicate, item_of_index_has_property, trim_node_up_to, has_log_by_status, accepted_number_of_send, get_or, GroupView, member_life_of_row, row_after_view}
-use Rattle.am_base.proofs.Rows.{IsMemberRow, row_after_pushed_view, blank_image_has_nobody_joined}
+use Rattle.am_step_laws.proofs.Words.{has_member_is_in_row, mod_sixteen_lt, image_of_pushed_entry, get_or-replicate, item_of_index_has_property, get_or, GroupView, member_life_of_row, row_after_view}
+use Rattle.am_base.proofs.Rows.{row_after_pushed_view, blank_image_has_nobody_joined}
 use Rattle.am_node_defs.proofs.Lives.{UnusedPlacesHaveNoLife}
 use Rattle.am_node_defs.specs.Sends as own
 use Rattle.am_node_defs.specs.Sends.{unsettled_sends_are_in_line}
@@ -17,9 +17,8 @@ use Rattle.am_model_laws.proofs.Rows.{rows_of_places_go_on, data_row_goes_on}
 use Rattle.am_model.specs.Node.{own_row}
 use Rattle.am_model.specs.Refresh.{is_data_of}
 use Rattle.am_step_laws.proofs.Rests.{settle_keeps_property}
-use Rattle.am_step_laws.proofs.EffectRuns.{changes_keep_property, runs_keep_what_events_keep, events_keep_by_steps, StepsKeepLaw, HasSameWorldParts}
-use Rattle.am_step_laws.proofs.Trimming.Trims.{NodeTrimFronts, told_image_is_used}
-use Rattle.am_step_laws.proofs.Trimming.TakenRuns.{TrimsOnlyTakenAlongStep, changes_trim_only_taken, WorldTrimsOnlyTaken, events_trim_only_taken, each_node_trims_only_taken, heard_welcome_image_is_used, start_trims_only_taken, run_trims_only_taken}
+use Rattle.am_step_laws.proofs.Trimming.Trims.{told_image_is_used}
+use Rattle.am_step_laws.proofs.Trimming.TakenRuns.{TrimsOnlyTakenAlongStep, changes_trim_only_taken, WorldTrimsOnlyTaken, events_trim_only_taken, each_node_trims_only_taken, heard_welcome_image_is_used, start_trims_only_taken}
 use Rattle.am_step_laws.proofs.Trimming.LeaderRows.{present_row_makes_member}
 use Rattle.am_step_laws.proofs.Views.{heard_stamps_have_names}
 use Rattle.am_step_laws.proofs.ViewNames.{HeardStampsHaveNames}

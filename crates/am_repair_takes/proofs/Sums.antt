@@ -1,5 +1,5 @@
 -- Names of sets, one by one, and sums over them.
-use Rattle.am_repair.proofs.RepairWords.{◌≡◌, ℕ, zero, suc, ◌+◌, ◌<◌, ◌≤◌, ◌==◌, Bool, true, false, List, [], ◌∷◌, length, refl, sym, ap, ◌∙◌, subst, arith, split_on_bool}
+use Rattle.am_repair.proofs.RepairWords.{◌≡◌, ℕ, zero, suc, ◌+◌, ◌<◌, ◌≤◌, ◌==◌, Bool, true, false, List, [], ◌∷◌, length, sym, ap, subst, arith, split_on_bool}
 use Rattle.am_repair.proofs.RepairWords.{◌⊎◌, inl, inr, either, nat_lt, All, All-nil, All-cons, All-head, All-tail, nat_tests, slice_index, place_of_name, life_of_name, has, names_from, names_of}
 use Rattle.am_base.specs.Names.{name_of_place_and_life}
 use Rattle.std.specs.List.{sum_by}
@@ -29,7 +29,7 @@ names_all P set long h = all_from P 0 set (λ k low some.
 
 -- ---- sums
 
-sums_low : (f g : ℕ → ℕ) (xs : List ℕ) → All (λ x. f x ≤ g x) xs → sum_by f xs ≤ sum_by g xs
+pub sums_low : (f g : ℕ → ℕ) (xs : List ℕ) → All (λ x. f x ≤ g x) xs → sum_by f xs ≤ sum_by g xs
 sums_low f g [] h = omega arith
 sums_low f g (x ∷ xs) h =
     let one = All-head (λ x. f x ≤ g x) x xs h in

@@ -1,5 +1,5 @@
 -- What the sequencer hears of what members have taken.
-use Rattle.am_repair.proofs.RepairWords.{◌≡◌, ℕ, ◌+◌, ◌≤◌, ◌==◌, not, nat_lt, nat_le, Bool, true, false, if◌then◌else◌, List, refl, sym, ap, ◌∙◌, subst, arith, nat_tests}
+use Rattle.am_repair.proofs.RepairWords.{◌≡◌, ℕ, ◌+◌, ◌≤◌, ◌==◌, not, nat_lt, nat_le, Bool, true, false, if◌then◌else◌, List, refl, sym, ap, subst, arith, nat_tests}
 use Rattle.am_repair.proofs.RepairWords.{Report, Node, has_room, node_with_report, refresh_at_end, Plan, finish, hear_packet, hears_packet_of_its_view, hear_row, has_no_join, take_report}
 use Rattle.am_repair.proofs.RepairWords.{report_fits, is_sequencer, answer_request, request_row, ack_row, nack_row, both_of_and, ack, nack, request, spread, split_on_bool}
 use Rattle.am_repair.proofs.RepairWords.{refresh, settle_changes_only_sends}

@@ -37,7 +37,7 @@ told_goes : (r : Repair) (i after taken : ℕ) (w : World) (e : Event) → IsTol
 told_goes r i after taken w e h = record { letter = h.letter; sent = letter_stays_sent_by_event w e after r.by h.letter h.sent; tells = h.tells }
 
 -- the sequencer is a member by a member's own list, once that goes as far as the sequencer's did
-lists_leader : (r : Repair) (q m : Node) → LeadsCalmly r q → has r.members r.by ≡ true → FollowsView r q m → r.high ≤ top m → r.view.by ≡ r.by
+pub lists_leader : (r : Repair) (q m : Node) → LeadsCalmly r q → has r.members r.by ≡ true → FollowsView r q m → r.high ≤ top m → r.view.by ≡ r.by
     → has (members m) (view m).by ≡ true
 lists_leader r q m l listed f far own =
     let by : (view m).by ≡ r.by = ap (λ (v : Stamp). v.by) f.view_ ∙ own in

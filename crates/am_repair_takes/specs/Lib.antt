@@ -2,3 +2,4 @@ pub mod Taking
 pub mod Resting
 pub mod Quiet
 pub mod Numbering
+pub mod Rest

@@ -3,6 +3,7 @@
 
 ghost use Rattle.am_repair_takes.specs.Numbering.{MembersHandIn, NextSendsAreNumbered, OwnSendsAreNumbered};
 ghost use Rattle.am_repair_takes.specs.Quiet.{QuietIsRaised, QuietStays, RoundsTellTaken, TicksTrim};
+ghost use Rattle.am_repair_takes.specs.Rest.{SendsAreAnswered};
 ghost use Rattle.am_repair_takes.specs.Resting.{SettledStands, TakenIsKnown};
 ghost use Rattle.am_repair_takes.specs.Taking.{AnsweredByTaking, RepairedByTaking, TakingRepairs, TakingStaysCalm};
 
@@ -56,4 +57,11 @@ pub fn waiting_sends_are_numbered()
     ensures hand_in { MembersHandIn }
     ensures next { NextSendsAreNumbered }
     ensures own { OwnSendsAreNumbered }
+{}
+
+/// In every lawful run that ends where a group may be repaired, and in which nobody who runs asks to join, each send of each member of the
+/// sequencer's list is answered: after as many rounds in which applications take as repair the group, and six more for each of those sends that
+/// had no number, no own send of a member is pending, and none is after any more of those rounds.
+pub fn sends_are_answered_by_taking()
+    ensures { SendsAreAnswered }
 {}
