@@ -59,9 +59,8 @@ pub struct Judged {
 impl Judged {
     /// Adds another list to what was judged before it.
     fn add(&mut self, generation: u32, other: &Judged) {
-        if self.lists == 0 || self.play.is_some() && other.play.is_none() {
-            self.play.clone_from(&other.play);
-        } else if self.play.is_some() && self.void_from.is_none() {
+        let is_said = other.play.is_some() && self.void_from.is_some();
+        if self.lists == 0 || self.play.is_some() && !is_said {
             self.play.clone_from(&other.play);
         }
         if let (None, Some(event)) = (self.void_from, other.void_from) {
