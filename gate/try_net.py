@@ -203,7 +203,7 @@ def inputs(tried: Tried) -> list[str]:
         ("leaving", commands, b"send hello\nleave\n", 0, ["hello"], ""),
         ("of the most bytes", [], b"a" * 65535 + b"\n" + b"b" * 65536 + b"\nc\n", 0, ["a" * 65535, "c"], "a message has at most 65,535 bytes"),
         ("of no command", commands, b"stopped\nstopped 00\nsned x\n", 0, [], "a command is send MESSAGE"),
-        ("of no name", commands, b"stopped 00\n", 0, [], "stopped wants a name: PLACE, or PLACE/LIFE"),
+        ("of no name", commands, b"stopped 00\n", 0, [], "stopped wants a name, PLACE or PLACE/LIFE"),
         ("of its own name", commands, b"stopped 0\n", 0, [], "the member itself hasn't stopped"),
         ("of nobody", commands, b"stopped 3\nsend x\n", 0, ["x"], ""),
     ]
