@@ -86,7 +86,7 @@ impl Place {
 
     /// Has a member do something, once it listens; what it answered.
     fn ask(&self, name: &str, words: &[&str]) -> serde_json::Value {
-        until(|| Path::new(&self.socket(name)).exists());
+        until(|| UnixStream::connect(self.socket(name)).is_ok());
         let mut all = vec![words[0], "--socket"];
         let socket = self.socket(name);
         all.push(&socket);
@@ -213,7 +213,7 @@ fn deliveries_are_given_to_one_caller_at_the_socket() {
         place.start(name, &["--input", "nothing"]);
     }
     place.ask("1", &["send", "first"]);
-    until(|| Path::new(&place.socket("0")).exists());
+    until(|| UnixStream::connect(place.socket("0")).is_ok());
     // one by one: what nobody has taken yet waits
     let mut one = listener(&place, "0");
     assert_eq!(next(&mut one)["kind"], "view");
