@@ -137,7 +137,10 @@ fn calls_go_on_over_the_ends_of_lists() {
     }
     let info = groups[2].info().unwrap();
     assert_eq!((info.generation, info.founding.window), (3, 256));
-    assert!(info.counts.messages_sent as usize >= positions.len() / 4);
+    // what was counted in ended lists stays counted
+    let own = positions.iter().filter(|(_, sent)| sent.starts_with(b"2 "));
+    let own = own.count();
+    assert!(own > 0 && info.counts.messages_sent as usize >= own);
     drop(groups);
     for place in ["0", "1", "2"] {
         for end in ["", ".1", ".2", ".3"] {
