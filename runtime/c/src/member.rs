@@ -100,6 +100,7 @@ fn keep(notices: &Mutex<VecDeque<String>>, notice: Notice) {
 ///
 /// # Safety
 /// The pointers are null, or a config's that nobody else uses now and one to room for a handle.
+// SAFETY: whoever calls it keeps to the above
 unsafe fn start(
     config: *mut muoswyld_config,
     group: *mut *mut muoswyld_group,

@@ -211,7 +211,7 @@ fn stamp(bytes: &[u8], at: usize) -> Result<Stamp, Refusal> {
 
 fn set(bytes: &[u8], at: usize) -> Result<Set, Refusal> {
     let mask = u16::from_be_bytes([bytes[at], bytes[at + 1]]);
-    let lives = u64::from_be_bytes(bytes[at + 2..at + 10].try_into().unwrap());
+    let lives = bytes[at + 2..at + 10].iter().fold(0, |lives, byte| lives << 8 | u64::from(*byte));
     for place in 0..16 {
         if mask >> place & 1 == 0 && lives >> (4 * place) & 15 != 0 {
             return bad(at + 2);
