@@ -1,4 +1,5 @@
 pub mod Scripts
+pub mod WorkedBallots
 pub mod WorkedMembers
 pub mod WorkedResets
 pub mod WorkedSends

@@ -12,6 +12,7 @@ pub mod scenarios_moves;
 pub mod scenarios_resets;
 pub mod scenarios_window;
 pub mod stop_table;
+pub mod worked_ballots;
 pub mod worked_members;
 pub mod worked_resets;
 pub mod worked_sends;
