@@ -1,0 +1,5 @@
+pub mod Words
+pub mod Asking
+pub mod Storing
+pub mod Serving
+pub mod Exchanged

@@ -1,0 +1,252 @@
+-- One member after the other comes to a running sequencer's view.
+use Rattle.am_fetch_runs.proofs.Words.{◌≡◌, ℕ, zero, suc, ◌+◌, ◌<◌, ◌==◌, true, false, List, [], ◌++◌, refl, sym, ap, ◌∙◌, subst, arith, nat_tests, split_on_bool, eqb-true}
+use Rattle.am_fetch_runs.proofs.Words.{Rules, MayFound, Event, Log, Node, view, members, image_of_node, image_of_log, stamps_are_equal, has, is_sequencer, World, run, is_stopped, names_hold_in_runs, lawful_front}
+use Rattle.am_fetch_runs.proofs.Words.{RunsInListOf, LagsBehind, both_of_and, acts_in_its_view, stamp_eq_gives_equality}
+use Rattle.am_fetch_runs.proofs.Words.{◌≤◌}
+use Rattle.std.proofs.Common.{All}
+use Rattle.std.proofs.lemmas.List.Elements.{All-nil, All-cons, All-append}
+use Rattle.am_base.specs.Names.{place_of_name}
+use Rattle.am_group.specs.declared.event.Act.TheVariants as act
+use Rattle.am_group_defs.specs.World.{current, start}
+unfoldable use Rattle.am_group_defs.specs.World.{world_after_events}
+use Rattle.am_group_defs.proofs.Runs.{runs_go_on}
+use Rattle.am_fetch_laws.specs.Exchanges.{TwoNodes, MayCatchUp, ActsInViewOf}
+use Rattle.am_fetch_laws.proofs.Exchanged.{LeadsOn, leads_on_in_turn, may_catch_up_with_same_lead, exchanges_reach_view_of_lead}
+use Rattle.am_fetch_runs.specs.Events.{exchange_events, hears_new, tick_of, asked, served}
+unfoldable use Rattle.am_fetch_runs.specs.Events.{hears_from, events_of_exchanges}
+use Rattle.am_fetch_runs.specs.Gathering.{MayGather, IsTickOrHearing, ticks, hears, MembersGather}
+use Rattle.am_fetch_runs.proofs.Events.{differs_back, IsThereNow, two_of, exchanges_happen}
+use Rattle.am_fetch_runs.proofs.Lagging.{lagger_is_another, laggers_may_catch_up}
+use Rattle.am_fetch_runs.proofs.Behind.{group_follows_lawful_run, promised_is_view}
+use Rattle.am_fetch_runs.proofs.Words.{Stamp, length, ◌-◌}
+use Rattle.am_step_laws.proofs.Resets.{stamp_eq_of_itself}
+use Rattle.am_group_defs.specs.Settle.{event_at}
+
+-- ---- the events
+
+hearings_are_such : (place number many : ℕ) → All IsTickOrHearing (hears_from place number many)
+unfolding hears_from
+hearings_are_such place number zero = All-nil IsTickOrHearing
+hearings_are_such place number (suc left) = All-cons IsTickOrHearing _ _ (hears place number) (hearings_are_such place (number + 1) left)
+
+exchange_is_of_such : (w : World) (q name : ℕ) → All IsTickOrHearing (exchange_events w q name)
+exchange_is_of_such w q name =
+    let asks = hears_new (asked w name) (place_of_name q) (length w.letters) in
+    let gets = hears_new (served w q name) (place_of_name name) (length (asked w name).letters) in
+    All-append IsTickOrHearing (tick_of name) (asks ++ gets) (All-cons IsTickOrHearing (event_at (place_of_name name) act.Tick) [] (ticks (place_of_name name)) (All-nil IsTickOrHearing))
+    (All-append IsTickOrHearing asks gets (hearings_are_such (place_of_name q) (length w.letters + 1) (length (asked w name).letters - length w.letters))
+    (hearings_are_such (place_of_name name) (length (asked w name).letters + 1) (length (served w q name).letters - length (asked w name).letters)))
+
+exchanges_are_of_such : (n : ℕ) (w : World) (q name : ℕ) → All IsTickOrHearing (events_of_exchanges n w q name)
+unfolding events_of_exchanges
+exchanges_are_of_such zero w q name = All-nil IsTickOrHearing
+exchanges_are_of_such (suc left) w q name =
+    All-append IsTickOrHearing (exchange_events w q name) (events_of_exchanges left (world_after_events w (exchange_events w q name)) q name) (exchange_is_of_such w q name) (exchanges_are_of_such left (world_after_events w (exchange_events w q name)) q name)
+
+-- ---- on the way
+
+-- a name acts in the view, or may catch up with the sequencer
+data IsOnWay (q0 : Node) (v : World) (q name : ℕ) : Type 0 where
+  acts : ActsInViewOf q0 (v.nodes name) → IsOnWay q0 v q name
+  lags : MayCatchUp (v.nodes q) (v.nodes name) → IsThereNow v name → (q == name) ≡ false → IsOnWay q0 v q name
+
+-- the sequencer leads on, and each member of its list is on its way
+record IsGathering (w v : World) (q : ℕ) : Type 0 where
+  leads : is_sequencer (w.nodes q) ≡ true
+  lead : LeadsOn (w.nodes q) (v.nodes q)
+  there : IsThereNow v q
+  each : (name : ℕ) → has (members (w.nodes q)) name ≡ true → IsOnWay (w.nodes q) v q name
+
+abbrev Acts : World → World → ℕ → ℕ → Type 0
+Acts w v q name = ActsInViewOf (w.nodes q) (v.nodes name)
+
+-- nobody but the members of its list does anything
+pub record SpareOthers (w v x : World) (q : ℕ) : Type 0 where
+  pub lives : x.lives ≡ v.lives
+  pub stopped : x.stopped ≡ v.stopped
+  pub others : (j : ℕ) → (j == q) ≡ false → has (members (w.nodes q)) j ≡ false → x.nodes j ≡ v.nodes j
+
+-- what some events bring
+record Gathered (w v : World) (q : ℕ) (P : World → Type 0) : Type 0 where
+  more : List Event
+  such : All IsTickOrHearing more
+  goes_on : IsGathering w (world_after_events v more) q
+  keeps : (j : ℕ) → Acts w v q j → Acts w (world_after_events v more) q j
+  spares : SpareOthers w v (world_after_events v more) q
+  brings : P (world_after_events v more)
+
+differs_by_list : (set : List ℕ) (a b : ℕ) → has set a ≡ true → has set b ≡ false → (b == a) ≡ false
+differs_by_list set a b t f = split_on_bool (b == a) (λ same. absurd (let k = ap (has set) (eqb-true b a same) in cc)) (λ g. g)
+
+-- a member that lags comes to act
+gather_lagger : (w v : World) (q name : ℕ) → IsGathering w v q → has (members (w.nodes q)) name ≡ true → MayCatchUp (v.nodes q) (v.nodes name) → IsThereNow v name → (q == name) ≡ false
+    → Gathered w v q (λ x. Acts w x q name)
+gather_lagger w v q name h listed may there differ =
+    let number = (image_of_node (v.nodes q)).view_number in
+    let reach = exchanges_reach_view_of_lead (two_of v q name) number may (omega arith) in
+    let n = reach.0 in
+    let x = world_after_events v (events_of_exchanges n v q name) in
+    let e = exchanges_happen n v q name (record { leader = h.there; lagger = there; differ = differ }) in
+    let on : LeadsOn (v.nodes q) (x.nodes q) = subst (λ (t : TwoNodes). LeadsOn (v.nodes q) t.sequencer) (sym e.two) reach.3 in
+    let lead = leads_on_in_turn h.lead on in
+    let old_view = ap (λ (l : Log). (image_of_log l).view) h.lead.log in
+    let now : ActsInViewOf (v.nodes q) (x.nodes name) = subst (λ (t : TwoNodes). ActsInViewOf (v.nodes q) t.member_) (sym e.two) reach.2 in
+    let mine : Acts w x q name = record { acts = now.acts; view_ = now.view_ ∙ old_view } in
+    let its : Acts w x q q = (record {
+      acts = (both_of_and (acts_in_its_view (x.nodes q)) ((view (x.nodes q)).by == (x.nodes q).core.who) (lead.leads ∙ h.leads)).0;
+      view_ = ap (λ (l : Log). (image_of_log l).view) lead.log;
+    }) in
+    let keeps : (j : ℕ) → Acts w v q j → Acts w x q j = λ j acts_. split_on_bool (j == q)
+    (λ t. subst (λ i. Acts w x q i) (sym (eqb-true j q t)) its)
+    (λ f. split_on_bool (j == name)
+    (λ t. subst (λ i. Acts w x q i) (sym (eqb-true j name t)) mine)
+    (λ g. subst (λ (m : Node). ActsInViewOf (w.nodes q) m) (sym (e.others j f g)) acts_)) in
+    let way : (j : ℕ) → IsOnWay (w.nodes q) v q j → IsOnWay (w.nodes q) x q j = λ j was. (elim was [
+      | acts a ↦ acts (keeps j a)
+      | lags may_ there_ other ↦ split_on_bool (j == name)
+          (λ t. acts (subst (λ i. Acts w x q i) (sym (eqb-true j name t)) mine))
+          (λ g. let same = e.others j (differs_back q j other) g in
+          lags (subst (λ (m : Node). MayCatchUp (x.nodes q) m) (sym same) (may_catch_up_with_same_lead (v.nodes q) (x.nodes q) (v.nodes j) on may_))
+          (record {
+            now = ap (λ (f : ℕ → ℕ). current (record v { lives = f }) (place_of_name j)) e.lives ∙ there_.now;
+            runs = ap (λ (xs : List ℕ). is_stopped (record v { stopped = xs }) j) e.stopped ∙ there_.runs;
+            who = ap (λ (m : Node). m.core.who) same ∙ there_.who;
+          }) other)
+    ]) in
+    record {
+      more = events_of_exchanges n v q name;
+      such = exchanges_are_of_such n v q name;
+      goes_on = record { leads = h.leads; lead = lead; there = e.both.leader; each = λ j listed. way j (h.each j listed) };
+      keeps = keeps;
+      spares = record {
+        lives = e.lives;
+        stopped = e.stopped;
+        others = λ j f none. e.others j f (differs_by_list (members (w.nodes q)) name j listed none);
+      };
+      brings = mine;
+    }
+
+-- nothing has to be done
+stay : (w v : World) (q : ℕ) (P : World → Type 0) → IsGathering w v q → P v → Gathered w v q P
+unfolding world_after_events
+stay w v q P h p = record {
+  more = [];
+  such = All-nil IsTickOrHearing;
+  goes_on = h;
+  keeps = λ j a. a;
+  spares = record { lives = refl; stopped = refl; others = λ j f none. refl };
+  brings = p;
+}
+
+gather_one : (w v : World) (q name : ℕ) → IsGathering w v q → has (members (w.nodes q)) name ≡ true → IsOnWay (w.nodes q) v q name → Gathered w v q (λ x. Acts w x q name)
+gather_one w v q name h listed (acts a) = stay w v q (λ x. Acts w x q name) h a
+gather_one w v q name h listed (lags may there differ) = gather_lagger w v q name h listed may there differ
+
+-- one after the other
+AllActBelow : World → ℕ → ℕ → World → Type 0
+AllActBelow w q k x = (name : ℕ) → name < k → has (members (w.nodes q)) name ≡ true → Acts w x q name
+
+then_one : (w v : World) (q k : ℕ) → (a : Gathered w v q (AllActBelow w q k)) → Gathered w (world_after_events v a.more) q (λ x. has (members (w.nodes q)) k ≡ true → Acts w x q k)
+    → Gathered w v q (AllActBelow w q (suc k))
+unfolding AllActBelow
+then_one w v q k a b =
+    let whole = runs_go_on v a.more b.more in
+    record {
+      more = a.more ++ b.more;
+      such = All-append IsTickOrHearing a.more b.more a.such b.such;
+      goes_on = subst (λ (x : World). IsGathering w x q) (sym whole) b.goes_on;
+      keeps = λ j acts_. subst (λ (x : World). Acts w x q j) (sym whole) (b.keeps j (a.keeps j acts_));
+      spares = subst (λ (x : World). SpareOthers w v x q) (sym whole) (record {
+        lives = b.spares.lives ∙ a.spares.lives;
+        stopped = b.spares.stopped ∙ a.spares.stopped;
+        others = λ j f none. b.spares.others j f none ∙ a.spares.others j f none;
+      });
+      brings = λ name low listed. subst (λ (x : World). Acts w x q name) (sym whole)
+          (split_on_bool (name == k)
+          (λ t. let same = eqb-true name k t in subst (λ i. Acts w (world_after_events (world_after_events v a.more) b.more) q i) (sym same)
+          (b.brings (subst (λ i. has (members (w.nodes q)) i ≡ true) same listed)))
+          (λ f. b.keeps name (a.brings name (below name k low f) listed)));
+    }
+  where
+    below : (name k : ℕ) → name < suc k → (name == k) ≡ false → name < k
+    below name k low f = grind (arith, nat_tests)
+
+gather_below : (k : ℕ) (w v : World) (q : ℕ) → IsGathering w v q → Gathered w v q (AllActBelow w q k)
+unfolding AllActBelow
+gather_below zero w v q h = stay w v q (AllActBelow w q 0) h (λ name low listed. absurd (omega arith))
+gather_below (suc k) w v q h =
+    let a = gather_below k w v q h in
+    let u = world_after_events v a.more in
+    then_one w v q k a (split_on_bool (has (members (w.nodes q)) k)
+    (λ t. let b = gather_one w u q k a.goes_on t (a.goes_on.each k t) in
+    record { more = b.more; such = b.such; goes_on = b.goes_on; keeps = b.keeps; spares = b.spares; brings = λ listed. b.brings })
+    (λ f. stay w u q (λ x. has (members (w.nodes q)) k ≡ true → Acts w x q k) a.goes_on (λ listed. absurd (cc))))
+
+-- ---- in every lawful run
+
+on_way_first : (rules : Rules) (events : List Event) (q name : ℕ) → MayFound rules → lawful_front rules events ≡ events → MayGather (run rules events) q
+    → (let w = run rules events in has (members (w.nodes q)) name ≡ true → IsOnWay (w.nodes q) w q name)
+on_way_first rules events q name may lawful gathers listed =
+    let w = run rules events in
+    let m = w.nodes name in
+    let at = gathers.each name listed in
+    let who = (names_hold_in_runs rules events may).who in
+    let among : RunsInListOf w q name = record {
+      small_leader = gathers.current_.small;
+      small = at.current_.small;
+      leads = gathers.leads;
+      leader_runs = gathers.current_.runs;
+      listed = listed;
+      member_ = at.member_;
+      runs = at.current_.runs;
+    } in
+    split_on_bool (stamps_are_equal (view m) (view (w.nodes q)))
+    (λ t.
+    let same = stamp_eq_gives_equality (view m) (view (w.nodes q)) t in
+    let h = group_follows_lawful_run rules events may lawful in
+    let promise = promised_is_view rules w h.0 q name h.1 among (who q) at.promised ∙ sym same in
+    let equal : stamps_are_equal m.core.promise (view m) ≡ true = ap (λ (u : Stamp). stamps_are_equal u (view m)) promise ∙ stamp_eq_of_itself (view m) in
+    let member = at.member_ in
+    acts (record { acts = rw (member, equal) refl; view_ = same }))
+    (λ f.
+    let lag : LagsBehind w q name = record { among = among; promised = at.promised; behind = f; trimmed = at.trimmed } in
+    lags (laggers_may_catch_up rules events q name may lawful lag) (record { now = at.current_.now; runs = at.current_.runs; who = who name }) (lagger_is_another w q name lag))
+
+-- all come to act; the sequencer leads on, and nobody else does anything
+pub record AllGathered (w v : World) (q : ℕ) : Type 0 where
+  pub leads : is_sequencer (v.nodes q) ≡ true
+  pub log : (v.nodes q).core.log ≡ (w.nodes q).core.log
+  pub acc : (w.nodes q).core.acc ≤ (v.nodes q).core.acc
+  pub spares : SpareOthers w w v q
+  pub act : (name : ℕ) → has (members (w.nodes q)) name ≡ true → ActsInViewOf (w.nodes q) (v.nodes name)
+
+pub members_gather_in_run : (rules : Rules) (events : List Event) (q : ℕ) → MayFound rules → lawful_front rules events ≡ events → MayGather (run rules events) q
+    → (more : List Event) × All IsTickOrHearing more × AllGathered (run rules events) (world_after_events (run rules events) more) q
+unfolding AllActBelow
+members_gather_in_run rules events q may lawful gathers =
+    let w = run rules events in
+    let who = (names_hold_in_runs rules events may).who in
+    let first : IsGathering w w q = record {
+      leads = gathers.leads;
+      lead = record { leads = refl; log = refl; acc = omega arith; base = refl };
+      there = record { now = gathers.current_.now; runs = gathers.current_.runs; who = who q };
+      each = λ name listed. on_way_first rules events q name may lawful gathers listed;
+    } in
+    let all = gather_below 256 w w q first in
+    let lead = all.goes_on.lead in (
+      all.more,
+      all.such,
+      record {
+        leads = lead.leads ∙ gathers.leads;
+        log = lead.log;
+        acc = lead.acc;
+        spares = all.spares;
+        act = λ name listed. all.brings name (gathers.each name listed).current_.small listed;
+      },
+    )
+
+pub members_gather : MembersGather
+members_gather rules events q may lawful gathers =
+    let w = run rules events in
+    let all = members_gather_in_run rules events q may lawful gathers in
+    (all.0, all.1, λ name listed. subst (λ (x : World). ActsInViewOf (w.nodes q) (x.nodes name)) (sym (runs_go_on (start rules) events all.0)) (all.2.act name listed))

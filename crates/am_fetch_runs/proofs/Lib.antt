@@ -1,0 +1,6 @@
+pub mod Words
+pub mod Lists
+pub mod Behind
+pub mod Lagging
+pub mod Events
+pub mod Gathering

@@ -1,0 +1,26 @@
+//! Laws of lawful runs: a member that doesn't have the View of the sequencer that runs has promised no less, and may fetch it (docs/REPAIR.md).
+#![tactic(auto)]
+
+ghost use Rattle.am_fetch_runs.specs.Behind.{LaggersMayCatchUp, LaggersReachView, MembersHavePromised};
+ghost use Rattle.am_fetch_runs.specs.Events.{LaggersReachViewInRuns};
+ghost use Rattle.am_fetch_runs.specs.Gathering.{MembersGather};
+
+/// Where a lawful run ends with a sequencer that runs, each Member of its list that runs has promised no less than the sequencer's view.
+pub fn members_have_promised()
+    ensures { MembersHavePromised }
+{}
+
+/// So if such a member has promised no more, and doesn't have the View, its list begins the sequencer's, and ends below that View. If it has also
+/// taken what the sequencer trims, it acts in the sequencer's view after enough exchanges between the two without loss. The run with the events
+/// of these exchanges ends there: the member's ticks, and what the two hear of each other.
+pub fn laggers_catch_up()
+    ensures may { LaggersMayCatchUp }
+    ensures reach { LaggersReachView }
+    ensures runs { LaggersReachViewInRuns }
+{}
+
+/// Where a lawful run ends with a sequencer whose members are all there, have promised no more than its view, and have taken what it trims,
+/// there are ticks and hearings after which each of them acts in that view.
+pub fn members_gather()
+    ensures { MembersGather }
+{}

@@ -1,0 +1,114 @@
+-- A group whose members have come to its sequencer's view may be repaired.
+use Rattle.am_repair.proofs.RepairWords.{◌≡◌, ℕ, ◌≤◌, ◌==◌, true, false, List, ◌++◌, sym, ap, ◌∙◌, subst, arith, All, split_on_bool, eqb-true, has, members_of_image, log_members_at, Log}
+use Rattle.am_repair.proofs.RepairWords.{top_of_log, image_of_log, Event, Rules, MayFound, Node, top, view, members, is_sequencer, has_departed, World, current, is_stopped, run, runs_go_on, run_trims_only_taken}
+use Rattle.am_repair.proofs.RepairWords.{world_after_events, MayRepair, HasCaughtUp}
+use Rattle.am_group_defs.specs.Lawful.{lawful_front}
+use Rattle.am_group_defs.specs.Settle.{settle_events}
+use Rattle.am_group_defs.specs.World.{start}
+use Rattle.am_repair.specs.Claim.{IsOut}
+use Rattle.am_repair.proofs.Known.Beginning.{name_out_is_no_member}
+use Rattle.am_repair.proofs.Going.{member_status_has_not_departed}
+use Rattle.am_repair.proofs.Repairable.RepairedSettled.{lossless_schedules_do_repair}
+use Rattle.am_fetch_runs.specs.Gathering.{IsTickOrHearing}
+use Rattle.am_fetch_runs.proofs.Gathering.{AllGathered, members_gather_in_run}
+use Rattle.am_repair_fetches.specs.Later.{MayRepairLater, GroupsMayBeRepairedLater, GroupsAreRepairedLater}
+use Rattle.am_repair_fetches.proofs.Leaving.{nobody_leaves_by_events}
+
+-- ---- a group that has gathered
+
+module _ (w v : World) (place : ℕ) (later : MayRepairLater w place) (g : AllGathered w v (current w place)) (itself : has (members (w.nodes (current w place))) (current w place) ≡ true)
+    (low : (w.nodes (current w place)).core.acc ≤ top (w.nodes (current w place))) (stays : (name : ℕ) → (w.nodes name).leaving ≡ false → (v.nodes name).leaving ≡ false) where
+  abbrev q : ℕ
+  q = current w place
+
+  pub same_name : current v place ≡ q
+  same_name = ap (λ (f : ℕ → ℕ). current (record w { lives = f }) place) g.spares.lives
+
+  same_members : (name : ℕ) → has (members (v.nodes q)) name ≡ has (members (w.nodes q)) name
+  same_members name = ap (λ (l : Log). has (members_of_image (image_of_log l)) name) g.log
+
+  -- who isn't listed is as before
+  unlisted_is_other : (name : ℕ) → has (members (w.nodes q)) name ≡ false → (name == q) ≡ false
+  unlisted_is_other name none = split_on_bool (name == q) (λ t. absurd (let k = ap (has (members (w.nodes q))) (eqb-true name q t) in cc)) (λ f. f)
+
+  unlisted_is_same : (name : ℕ) → has (members (w.nodes q)) name ≡ false → v.nodes name ≡ w.nodes name
+  unlisted_is_same name none = g.spares.others name (unlisted_is_other name none) none
+
+  still_out : (name : ℕ) → has (members (w.nodes q)) name ≡ false → IsOut w (w.nodes q) name → IsOut v (v.nodes q) name
+  still_out name none out = λ here number above within.
+      (let same = unlisted_is_same name none in
+      let rises = g.acc in
+      let long = ap (λ (l : Log). top_of_log l) g.log in
+      ap (λ (l : Log). has (log_members_at l number) name) g.log ∙ out (ap (λ (m : Node). has_departed m.status) (sym same) ∙ here) number (omega arith) (omega arith))
+
+  stopped_is_out : (name : ℕ) → is_stopped v name ≡ true → IsOut v (v.nodes q) name
+  stopped_is_out name t =
+      let before : is_stopped w name ≡ true = ap (λ (xs : List ℕ). is_stopped (record w { stopped = xs }) name) (sym g.spares.stopped) ∙ t in
+      split_on_bool (has (members (w.nodes q)) name)
+      (λ listed. absurd (let runs = (later.gathers.each name listed).current_.runs in cc))
+      (λ none. still_out name none (later.nobody_stopped name before))
+
+  listed_stays : (name : ℕ) → has (members (w.nodes q)) name ≡ true → (w.nodes name).leaving ≡ false
+  listed_stays name listed = split_on_bool (w.nodes name).leaving
+      (λ t. absurd (let here = member_status_has_not_departed (w.nodes name) (later.gathers.each name listed).member_ in
+      let none = name_out_is_no_member w (w.nodes q) name low (later.nobody_leaves name t) here in cc))
+      (λ f. f)
+
+  leaver_is_out : (name : ℕ) → (v.nodes name).leaving ≡ true → IsOut v (v.nodes q) name
+  leaver_is_out name t = split_on_bool (has (members (w.nodes q)) name)
+      (λ listed. absurd (let f = stays name (listed_stays name listed) in cc))
+      (λ none. still_out name none (later.nobody_leaves name (ap (λ (m : Node). m.leaving) (sym (unlisted_is_same name none)) ∙ t)))
+
+  pub gathered_may_repair : MayRepair v place
+  gathered_may_repair = record {
+    leads = subst (λ i. is_sequencer (v.nodes i) ≡ true) (sym same_name) g.leads;
+    nobody_stopped = λ name t. subst (λ i. IsOut v (v.nodes i) name) (sym same_name) (stopped_is_out name t);
+    nobody_leaves = λ name t. subst (λ i. IsOut v (v.nodes i) name) (sym same_name) (leaver_is_out name t);
+    all_act = λ name there.
+        (let listed = sym (same_members name) ∙ subst (λ i. has (members (v.nodes i)) name ≡ true) same_name there in
+        let a = g.act name listed in
+        (a.acts, a.view_ ∙ sym (ap (λ (l : Log). (image_of_log l).view) g.log) ∙ ap (λ i. view (v.nodes i)) (sym same_name)));
+  }
+
+-- ---- in every lawful run
+
+-- the events, and what the longer run comes to
+record Later (rules : Rules) (events : List Event) (place : ℕ) : Type 0 where
+  more : List Event
+  such : All IsTickOrHearing more
+  may : MayRepair (run rules (events ++ more)) place
+  log : ((run rules (events ++ more)).nodes (current (run rules (events ++ more)) place)).core.log ≡ ((run rules events).nodes (current (run rules events) place)).core.log
+
+gathers_later : (rules : Rules) (events : List Event) (place : ℕ) → MayFound rules → lawful_front rules events ≡ events → MayRepairLater (run rules events) place → Later rules events place
+gathers_later rules events place may lawful later =
+    let w = run rules events in
+    let q = current w place in
+    let g = members_gather_in_run rules events q may lawful later.gathers in
+    let v = world_after_events w g.0 in
+    let laws = run_trims_only_taken rules events may in
+    let kept = laws.each q later.gathers.current_.small in
+    let itself = subst (λ i. has (members (w.nodes q)) i ≡ true) (laws.blanks.base.named.who q) (kept.leads later.gathers.leads) in
+    let stays : (name : ℕ) → (w.nodes name).leaving ≡ false → (v.nodes name).leaving ≡ false = λ name h. nobody_leaves_by_events g.0 w name g.1 h in
+    let is : run rules (events ++ g.0) ≡ v = runs_go_on (start rules) events g.0 in
+    record {
+      more = g.0;
+      such = g.1;
+      may = subst (λ (u : World). MayRepair u place) (sym is) (gathered_may_repair w v place later g.2 itself kept.fronts.accepted stays);
+      log = ap (λ (u : World). (u.nodes (current u place)).core.log) is
+          ∙ ap (λ i. (v.nodes i).core.log) (same_name w v place later g.2 itself kept.fronts.accepted stays) ∙ g.2.log;
+    }
+
+pub groups_may_be_repaired_later : GroupsMayBeRepairedLater
+groups_may_be_repaired_later rules events place may small lawful later = let h = gathers_later rules events place may lawful later in (h.more, h.such, h.may)
+
+pub groups_are_repaired_later : GroupsAreRepairedLater
+groups_are_repaired_later rules events place may small lawful later =
+    let h = gathers_later rules events place may lawful later in
+    let v = run rules (events ++ h.more) in (
+      h.more,
+      h.such,
+      λ longer name listed.
+          (let there : has (members (v.nodes (current v place))) name ≡ true = ap (λ (l : Log). has (members_of_image (image_of_log l)) name) h.log ∙ listed in
+          subst (λ n. HasCaughtUp ((world_after_events v (settle_events rules v)).nodes name) n) (ap (λ (l : Log). top_of_log l) h.log)
+          (lossless_schedules_do_repair rules (events ++ h.more) place may small longer h.may name there)),
+    )
