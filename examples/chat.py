@@ -3,8 +3,8 @@
 
     examples/chat.py --name 0 --founders 0,1 --address 0=127.0.0.1:7000 --address 1=127.0.0.1:7001 --insecure
 
-Each line of standard input is said to all; `leave`, Ctrl-C or its end leaves; `stopped NAME` tells that a process has ended for sure. Who joins sees what is
-said from then on. It needs the package muoswyld (docs/PYTHON.md).
+Each line of standard input is said to all. `leave`, Ctrl-C and the end of the input leave the chat. `stopped NAME` says that a process has certainly
+ended. A member that joins sees what is said from then on. The chat needs the package muoswyld (docs/PYTHON.md).
 """
 
 import argparse

@@ -3,8 +3,9 @@
 
     examples/dictionary.py --name 0 --founders 0,1 --address 0=127.0.0.1:7000 --address 1=127.0.0.1:7001 --insecure
 
-Standard input: `put KEY VALUE`, `delete KEY`, `get KEY` (of what this member has taken so far), `keys`, `leave`, `stopped NAME`. At its end, and at
-Ctrl-C, the member leaves. Who joins is sent the contents (examples/contents.py). It needs the package muoswyld (docs/PYTHON.md).
+The lines of standard input are `put KEY VALUE`, `delete KEY`, `get KEY` (of the contents that this member has so far), `keys`, `leave` and
+`stopped NAME`. At the end of the input, and at Ctrl-C, the member leaves. A member that joins is sent the contents (examples/contents.py). The dictionary
+needs the package muoswyld (docs/PYTHON.md).
 """
 
 import asyncio

@@ -67,7 +67,9 @@ class Apart(Stores):
 
     def words(self, place: int) -> list[object]:
         """The settings of a place's member."""
-        words: list[object] = ["--name", self.name(place), "--founders", "0,1,2", "--resilience", "1", "--key", self.folder / "key"]
+        # a place that comes back begins in the list that its folder of state or the others know, and as the life that is next there
+        named = [str(place), "--next-life"] if self.lives[place] > 1 else [str(place)]
+        words: list[object] = ["--name", *named, "--founders", "0,1,2", "--resilience", "1", "--key", self.folder / "key"]
         for other in PLACES:
             words += ["--address", f"{other}={self.network.address(other)}"]
         words += ["--failures", self.policy, "--voters", "0,1,2", "--state", self.folder / f"state-{place}"]
@@ -90,6 +92,12 @@ class Apart(Stores):
         process.kill()
         process.wait()
 
+    def end_list(self, place: int) -> None:
+        """Ends the group's list by a place's store, as soon as that may be. A place that comes back is told its name."""
+        lives = self.lives
+        super().end_list(place)
+        self.lives = lives
+
     def revive(self) -> int:
         """Starts the next lives of stores that were given up, and waits until all are ready; how many were."""
         ended = 0
@@ -103,6 +111,7 @@ class Apart(Stores):
                     self.start(place)
             try:
                 self.wait()
+                self.generation = int(self.info(0)["muoswyld_generation"])
                 return ended
             except Failed:
                 if time.monotonic() > until:
@@ -120,12 +129,14 @@ class Splits:
         self.ended = 0
 
     def __call__(self) -> None:
-        """Fails and comes back for so many seconds, and each way once at least."""
+        """Fails and comes back for so many seconds, and each way once at least. The list ends as one store is cut off, and once all hear each
+        other again."""
         ways, until = list(WAYS), time.monotonic() + self.seconds
         self.draw.shuffle(ways)
         while ways or time.monotonic() < until:
             time.sleep(0.5)
             self.once(ways.pop() if ways else self.draw.choice(list(WAYS)))
+        self.stores.end_list(self.draw.choice(PLACES))
 
     def once(self, way: str) -> None:
         """The network fails in a way, and comes back."""
@@ -137,12 +148,23 @@ class Splits:
             "heard by nobody": {other: {place} for other in others},
             "all": {one: {*PLACES} - {one} for one in PLACES},
         }[way]
+        ending = self.end_about_now({*others}.pop()) if way == "alone" and not self.stores.generation else None
         self.stores.network.deafen(deaf)
         begun = time.monotonic()
         time.sleep(SILENCE * (3 if way == "hears nobody" else 2) + 0.5)
         self.apart.append(({*PLACES} if way == "all" else {place}, begun, time.monotonic()))
         self.stores.network.deafen({})
+        if ending:
+            # it may be refused, as one store isn't heard
+            ending.communicate(timeout=self.stores.patience)
         self.ended += self.stores.revive()
+
+    def end_about_now(self, place: int) -> subprocess.Popen[bytes]:
+        """Has a place's store asked to end the list, and doesn't wait for that."""
+        words = [self.stores.program, "succeed", "--socket", self.stores.folder / f"socket-{place}"]
+        ending = subprocess.Popen(words, stdout=subprocess.DEVNULL, stderr=subprocess.DEVNULL)
+        time.sleep(self.draw.random() * 0.1)
+        return ending
 
     def late(self, answers: list[tuple[int, float, float]]) -> list[str]:
         """Which stores answered while they were cut off."""

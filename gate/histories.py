@@ -1,4 +1,4 @@
-"""Histories of keys, by clients that ask while members are killed and come back."""
+"""Histories of keys, by clients that ask while members are killed and come back, and lists end."""
 
 import random
 import threading
@@ -106,11 +106,15 @@ def kept(stores: Stores, seed: int, disturb: Callable[[], None]) -> Histories:
 
 
 def kills(stores: Stores, seconds: float) -> None:
-    """In some seconds each store is killed and comes back."""
+    """In some seconds each store is killed and comes back. The list ends before that, and while the store is away."""
     for place in (0, 1, 2):
-        time.sleep(seconds / 6)
+        time.sleep(seconds / 12)
+        stores.end_list(place)
+        time.sleep(seconds / 12)
         stores.kill(place)
-        time.sleep(seconds / 6)
+        time.sleep(seconds / 12)
+        stores.end_list((place + 1) % 3)
+        time.sleep(seconds / 12)
         stores.start(place)
         stores.wait()
 

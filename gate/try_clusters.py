@@ -17,6 +17,7 @@ import subprocess
 import sys
 import tempfile
 import time
+import zlib
 from typing import Any
 
 from member import Position
@@ -293,20 +294,23 @@ def message(number: int, index: int, sender: str, text: str) -> dict[str, Any]:
 
 
 def three() -> tuple[list[Seen], dict[tuple[int, str], Life]]:
-    """What was printed and journaled in a small run: two founders, one of whom comes back, and a message in parts."""
+    """What was printed and journaled in a small run: two founders, one of whom comes back, a message in parts, and contents beside the list."""
     view = {"generation": 0, "number": 1, "index": 0, "kind": "view", "members": ["0", "1"], "resilience": 1}
     long = "c" * 1100
     log = [view, message(2, 0, "0", "a"), message(2, 1, "0", "b"), message(4, 0, "0", long)]
     joined = [{"generation": 0, "number": 5, "index": 0, "kind": "joined", "name": "1/2"}, message(6, 0, "1/2", "d")]
+    joined += [message(7, 0, "0", "e" * 300), message(7, 1, "0", "f")]
     lives = [
-        Seen("0", {0: "0"}, [["a", long], ["b"]], {"b": Position(0, 2, 1)}, [*log, *joined], True),
+        Seen("0", {0: "0"}, [["a", long, "e" * 300, "f"], ["b"]], {"b": Position(0, 2, 1)}, [*log, *joined], True),
         Seen("1", {0: "1"}, [], {}, log[:3], False),
         Seen("1/2", {0: "1/2"}, [["d"]], {}, list(joined), True),
     ]
     share = long.encode()
     bodies = [b"P\0\1a\0\1b", b"S\0\0\0\2" + share[:1019], b"S\0\1\0\2" + share[1019:]]
     took = ["took 1 view 1.0 0,1", *(f"took {number} data 0 1 {body.hex()}" for number, body in enumerate(bodies, 2))]
-    rest = ["took 5 join 1/2", f"took 6 data 1/2 1 {b'P'.hex()}000164"]
+    contents = b"\1\x2c" + b"e" * 300 + b"\0\1f"
+    reference = b"R" + bytes(8) + len(contents).to_bytes(4, "big") + zlib.crc32(contents).to_bytes(4, "big")
+    rest = ["took 5 join 1/2", f"took 6 data 1/2 1 {b'P'.hex()}000164", f"took 7 data 0 4 {reference.hex()}"]
     journals = {"0": took + rest, "1": took, "1/2": rest}
     made = {(0, name): Life(name, [], [Step(0, "take", answer=answer) for answer in said], True, []) for name, said in journals.items()}
     return lives, made
@@ -380,7 +384,10 @@ def comparing(_: Tried) -> list[str]:
         ("no view first", lambda seen: seen[1].log.pop(0), " first"),
         ("no join first", lambda seen: seen[2].log.pop(0), " first"),
         ("more than the journal", lambda seen: seen[1].log.extend(seen[0].log[3:]), "and its journal has []"),
-        ("less than the journal", lambda seen: seen[2].log.pop(), "1/2 printed 1 deliveries"),
+        ("less than the journal", lambda seen: seen[2].log.__delitem__(slice(1, None)), "1/2 printed 1 deliveries"),
+        ("other contents", lambda seen: [seen[life].log.__setitem__(-1, message(7, 1, "0", "g")) for life in (0, 2)], "its journal has"),
+        ("fewer contents", lambda seen: [seen[life].log.pop() for life in (0, 2)], "its journal has"),
+        ("contents of another name", lambda seen: [seen[life].log.__setitem__(-1, message(7, 1, "1", "f")) for life in (0, 2)], "its journal has"),
         ("an answer elsewhere", lambda seen: seen[0].answers.update(b=Position(0, 2, 0)), "stands at"),
         ("an answer of what stands nowhere", lambda seen: seen[1].answers.update(z=Position(0, 2, 0)), "stands at None"),
         ("a message that stands nowhere", lambda seen: seen[0].channels[0].append("e"), "stands nowhere"),
@@ -394,14 +401,18 @@ def comparing(_: Tried) -> list[str]:
         if not any(said in line for line in found):
             wrong.append(f"{what}: {found}")
     lives, journals = three()
+    lives[2].log.pop()
+    lives[2].has_ended = False
+    wrong += [f"{line}, of what was killed amid contents" for line in differences(lives, journals)]
+    lives, journals = three()
     lives[1].log[2] = message(2, 1, "0", "x")
     claimed = {(0, "0"): 6, (0, "1"): 2}, {(0, "0"): 6, (0, "1"): 1}
     of_lists = [[line for line in differences(lives, journals, each) if "its journal has" not in line] for each in claimed]
     if not of_lists[0] or of_lists[1]:
         wrong.append("what isn't claimed is compared, or what is isn't")
     lives, journals = three()
-    lives[0].log.append(message(7, 0, "0", "a"))
-    journals[0, "0"].steps.append(Step(0, "take", answer="took 7 data 0 9 50000161"))
+    lives[0].log.append(message(8, 0, "0", "a"))
+    journals[0, "0"].steps.append(Step(0, "take", answer="took 8 data 0 9 50000161"))
     if not any("stands there twice" in line for line in differences(lives, journals)):
         wrong.append("a message that stands there twice isn't found")
     lives, journals = three()

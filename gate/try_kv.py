@@ -1,7 +1,7 @@
 #!/usr/bin/env python3
 """Tries muoswyld-kv by programs that know nothing of it: redis-cli, redis-benchmark, Python's redis client, and a Redis server whose replies
-its own are compared with. Three stores run on this machine; each is killed and comes back while clients ask, and what they were answered
-must be linearizable.
+its own are compared with. Three stores run on this machine; each is killed and comes back while clients ask, and the group's list ends six
+times meanwhile. What they were answered must be linearizable.
 
     gate/try_kv.py [PROGRAM [SECONDS [SEED]]]
 
@@ -188,7 +188,7 @@ def by_python(stores: Stores, _: int) -> list[str]:
 
 
 def with_kills(stores: Stores, seed: int, seconds: float) -> list[str]:
-    """Histories under kills are linearizable, and the stores are the same at the end."""
+    """Histories under kills and ends of lists are linearizable, and the stores are the same at the end."""
     wrong = histories.faults(histories.kept(stores, seed, lambda: histories.kills(stores, seconds)))
     return wrong + differences(stores)
 

@@ -1,7 +1,8 @@
 #!/usr/bin/env python3
 """Tries stores (docs/KV.md) while the network between them fails: three stores in network namespaces, with a policy that finds out who has
-stopped, and eight clients on all sides. One store is cut off, or hears nobody, or is heard by nobody, or none hears another. A store without
-a majority of the voters must answer nothing; what clients were answered must be linearizable; and the stores are the same in the end.
+stopped, and eight clients on all sides. One store is cut off, or hears nobody, or is heard by nobody, or none hears another. The group's list
+is ended as one store is cut off, and in the end. A store without a majority of the voters must answer nothing; what clients were answered
+must be linearizable; and the stores are the same in the end.
 
     gate/try_kv_splits.py [PROGRAM [SECONDS [SEED [POLICIES [READS]]]]]
 
@@ -32,7 +33,7 @@ def tried(program: pathlib.Path, policy: str, reads: str, given: tuple[float, in
     with tempfile.TemporaryDirectory(prefix="muoswyld-kv-") as folder, Apart(pathlib.Path(folder), program, PATIENCE, policy, reads) as stores:
         splits = Splits(stores, seconds, seed)
         kept = histories.kept(stores, seed, splits)
-        print(f"{policy}: the network failed {len(splits.apart)} times, {splits.ended} stores were given up and came back")
+        print(f"{policy}: the network failed {len(splits.apart)} times, {splits.ended} stores were given up and came back, {stores.generation} lists ended")
         wrong = histories.faults(kept)
         if reads == "local":
             found = [line for line in wrong if "isn't linearizable" in line]

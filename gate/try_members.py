@@ -42,6 +42,7 @@ def window_full(tried: Tried) -> list[str]:
         members[frozen].signal(signal.SIGSTOP)
         for number in range(9):
             members["1"].tell(f"send {frozen} {number} {'x' * 900}")
+            time.sleep(0.1)  # each goes out in an entry of its own: what waits together shares one
         wrong += [] if members[holds].wants(told) else [f"{holds} doesn't tell that {told}"]
         if frozen == "2" and not members["0"].wants("the window is full: 2 has taken less than the others, and holds them"):
             wrong.append("0 doesn't tell who holds the window")

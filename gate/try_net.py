@@ -28,7 +28,7 @@ from relay import Faults, Relay  # noqa: E402
 
 # what a member tells of what it drops
 NOT_SEALED = "it isn't sealed by this member's key"
-OTHER_GROUP = "it is of another group, of an earlier run, or of other settings"
+OTHER_GROUP = "it is of another group, of an earlier run, of other settings, or of another version of this program"
 OTHER_PROCESS = "another process has this name already; a place comes back as its next life"
 
 

@@ -3,14 +3,14 @@
 
     net/cluster.py --nodes 4 --resilience 1 --seconds 10 --rate 300 --loss 5 --repeat 2 --delay 5 --kill 2 --seed 1
 
-Members are processes of muoswyldd, and a relay between them makes the faults. They send `--rate` messages a second in all; of a hundred
-datagrams so many are lost, repeated and overtaken by the next one, and each is delayed by up to so many milliseconds. `--kill` times one of
-them is killed by SIGKILL; the others are told once it has ended, and its place comes back as its next life. `--freeze` times one of them is
-stopped by SIGSTOP for a while. `--succeed` times the list ends and another one follows it, while all that goes on. In the end their inputs
-end; whom that doesn't end within `--patience` seconds, as it has still much to send, is killed. After that the journals of each list are
-merged to one script, `play` runs it, and each answer of each process is compared with its line; the program `judge` judges the journals too,
-however long they are and of all lists; and what the members printed is compared with each other, with what was sent and answered, and with
-the journals. It ends with 1 if something differs, or if a member ended by itself.
+Members are processes of muoswyldd, and a relay between them makes the faults. All members together send `--rate` messages a second. `--loss`,
+`--repeat` and `--reorder` say how many of a hundred datagrams are lost, repeated and overtaken by the next one. `--delay` says by how many
+milliseconds a datagram is late at most. `--kill` times a member is killed by SIGKILL. After it has ended, the others are told, and its place
+comes back as its next life. `--freeze` times a member is stopped by SIGSTOP for a while. `--succeed` times the list ends and another one
+follows it. At the end the members' inputs end. A member that hasn't ended `--patience` seconds later is killed. Then the journals of each
+list are merged into one script, `play` runs it, and each answer of each process is compared with the line for it. The program `judge` judges
+the journals too, of any length and of all lists. What the members printed is compared with each other, with what was sent and answered, and
+with the journals. It ends with 1 if something differs, or if a member ended by itself.
 """
 
 import argparse

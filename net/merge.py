@@ -1,14 +1,14 @@
 #!/usr/bin/env python3
-"""One script of the journals of a group's members, so that `play` runs again what happened.
+"""Makes one script of the journals of a group's members, so that `play` can run again what happened.
 
     net/merge.py JOURNAL.. > SCRIPT            the script
-    net/merge.py --lines JOURNAL.. > LINES     of each of its events the line of the text that the members' answers come to
+    net/merge.py --lines JOURNAL.. > LINES     for each event of it the line of the text that the members' answers make
 
-Each member's lines stay in their order; a letter is heard behind the line that sent it, a name is given up behind its stop, a place
-returns behind the stop of its life before. Else the times in the journals decide. A life whose journal has no end stopped behind its
-last line, and so did one that its place went on from, or that was given up. A line whose answer never came isn't there, nor is a last
-line that is cut. A life that was killed before its journal had a line did nothing: its empty journal, or /dev/null, stands for it. Where
-no such order exists, it is said what is missing, or in the way: a journal, a letter, a stop or an end.
+Each member's lines stay in their order. A letter is heard after the line that sent it, a name is given up after its stop, and a place
+returns after the stop of its life before. Otherwise the times in the journals decide. A life stopped after its last line if its journal has no
+end, if its place came back, or if it was given up. A line without an answer is left out, and so is a last line that is cut off. A life that
+was killed before its journal had a line did nothing: give its empty journal, or /dev/null. If there is no such order, an error says what is
+missing or in the way: a journal, a letter, a stop or an end.
 """
 
 import heapq

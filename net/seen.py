@@ -1,18 +1,19 @@
 """What the applications of a cluster's members sent and saw, compared with each other and with the members' journals.
 
 - All lives printed pieces of one list: at a position all have the same delivery, and nobody misses one between its first and its last.
-  A joiner isn't given a long message that began before its join.
 - A founder's piece begins with the founders' view, a joiner's with its own join.
 - Each message stands in the list once at most, and only where its sender sent it; those that were given by one way stand in their order.
 - A message whose send was answered stands at the position of the answer. Of a life that ended by its input all messages stand there.
 - What a life printed is what its journals say that its node gave it: all of it, or, where it was killed, the beginning. Of a list that ended that
-  is all up to its end, and what was printed of that end is what the journal says.
+  is all up to its end, and what was printed of that end is what the journal says. Of contents beside the list a journal has the length and the
+  CRC-32: both are those of the messages that were printed, as the sender's stream has them.
 
 Where more stopped than the resilience, all but the last of these is looked at in what each life was given before that.
 """
 
 import json
 import pathlib
+import zlib
 from collections.abc import Iterator
 from dataclasses import dataclass, replace
 from typing import Any
@@ -24,9 +25,9 @@ from merge import Life
 Claims = dict[tuple[int, str], int]
 # how a body of control begins, which nobody is given
 CONTROL = b"C"
-# the longest message that isn't sent in parts
-MOST_PACKED = 1021
-SHARE = 1019
+# how a body begins that names contents beside the list, and how long it is
+REFERENCE = b"R"
+REFERENCE_SIZE = 17
 
 
 class Log:
@@ -111,15 +112,9 @@ def gaps(life: Seen, whole: dict[Position, dict[str, Any]]) -> Iterator[str]:
     """What stands between two deliveries of a life, and wasn't given to it."""
     had = {at_of(delivery) for delivery in life.log}
     first, last = min(had), max(had)
-    spoke: set[str] = set()
     for at, delivery in whole.items():
-        if not first <= at <= last:
-            continue
-        sender = f"{at.generation} {delivery.get('from', '')}"
-        began_before = "/" in life.name and at.generation == first.generation and len(delivery.get("text", "")) > MOST_PACKED and sender not in spoke
-        if at not in had and not began_before:
+        if first <= at <= last and at not in had:
             yield f"{life.name} wasn't given {shown(delivery)}"
-        spoke.add(sender)
 
 
 def is_claimed_at(life: Seen, at: Position, claimed: "Claims | None") -> bool:
@@ -161,6 +156,13 @@ def packed(body: bytes) -> list[bytes] | None:
     return messages or None
 
 
+def named(body: bytes) -> tuple[int, int] | None:
+    """The length and the CRC-32 of the contents that a body names beside the list; None where it names none."""
+    length, crc = int.from_bytes(body[9:13], "big"), int.from_bytes(body[13:17], "big")
+    is_one = body[:1] == REFERENCE and len(body) == REFERENCE_SIZE and length and int.from_bytes(body[1:9], "big") + length <= 1 << 62
+    return (length, crc) if is_one else None
+
+
 class Parts:
     """Puts messages together of the parts that a life's node gave it (docs/MESSAGES.md)."""
 
@@ -200,6 +202,9 @@ def taken(life: Life, generation: int) -> Iterator[tuple[Position, str, str]]:
             body = b"" if rest[2] == "-" else bytes.fromhex(rest[2])
             if body[:1] == CONTROL:
                 continue
+            if contents := named(body):
+                yield at, "contents", f"{rest[0]} {contents[0]} {contents[1]}"
+                continue
             for index, message in enumerate(parts.messages(rest[0], body)):
                 yield Position(generation, int(number), index), "message", f"{rest[0]} {message.decode(errors='replace')}"
         elif kind == "view":
@@ -222,16 +227,49 @@ def printed(delivery: dict[str, Any]) -> tuple[Position, str, str]:
     return at_of(delivery), delivery["kind"], what
 
 
+def in_stream(delivery: dict[str, Any]) -> bytes:
+    """A message as its sender's stream has it."""
+    message = bytes.fromhex(delivery["hex"]) if "hex" in delivery else delivery["text"].encode()
+    return len(message).to_bytes(2, "big") + message
+
+
+def is_of_contents(log: list[dict[str, Any]], wanted: str, is_cut: bool) -> bool:
+    """Whether messages are what an entry names beside the list; of what is cut that is its beginning."""
+    sender, length, crc = wanted.split(" ")
+    if any(delivery["kind"] != "message" or delivery["from"] != sender or delivery["index"] != index for index, delivery in enumerate(log)):
+        return False
+    contents = b"".join(in_stream(delivery) for delivery in log)
+    if is_cut and len(contents) < int(length):
+        return True
+    return len(contents) == int(length) and zlib.crc32(contents) == int(crc)
+
+
 def against_journals(seen: Seen, lives: dict[tuple[int, str], Life]) -> Iterator[str]:
     """Where what a life printed isn't what its journals say."""
     own = [(generation, lives.get((generation, name))) for generation, name in sorted(seen.names.items())]
     wanted = [given for generation, life in own if life for given in taken(life, generation)]
-    for number, delivery in enumerate(seen.log):
-        if number >= len(wanted) or printed(delivery) != wanted[number]:
-            yield f"{seen.name} was given {shown(delivery)}, and its journal has {str(wanted[number : number + 1])[:100]}"
+    number = 0  # of the next delivery
+    for at, kind, what in wanted:
+        if number == len(seen.log):
+            break
+        many = 1
+        if kind == "contents":
+            entry = (at.generation, at.number)
+            many = sum((it["generation"], it["number"]) == entry for it in seen.log[number:])
+            is_cut = number + many == len(seen.log) and not seen.has_ended
+            is_right = many > 0 and is_of_contents(seen.log[number : number + many], what, is_cut)
+        else:
+            is_right = printed(seen.log[number]) == (at, kind, what)
+        if not is_right:
+            yield f"{seen.name} was given {shown(seen.log[number])}, and its journal has {str([(at, kind, what)])[:100]}"
             return
-    if seen.has_ended and len(wanted) > len(seen.log):
-        yield f"{seen.name} printed {len(seen.log)} deliveries, and its journals have {len(wanted)}"
+        number += many
+    else:
+        if number < len(seen.log):
+            yield f"{seen.name} was given {shown(seen.log[number])}, and its journal has []"
+        return
+    if seen.has_ended:
+        yield f"{seen.name} printed {len(seen.log)} deliveries, and its journals have more"
 
 
 def differences(lives: list[Seen], journals: dict[tuple[int, str], Life], claimed: Claims | None = None) -> list[str]:

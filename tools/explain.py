@@ -1,11 +1,11 @@
 #!/usr/bin/env python3
 """Says in words why the program refuses a script, or a text.
 
-    tools/explain.py [PROGRAM [WORD]] < SCRIPT
+    tools/explain.py [PROGRAM [COMMAND]] < SCRIPT
 
-PROGRAM is crates/am_sim/out/am_sim by default. WORD is `play`, `race` or `audit`; by default it is the script's own key, or `play` if there is
-none. For `audit` it shows the bad line of the text, and says what may stand there. It ends with 0 if the program takes the input, with 1 if it
-doesn't, and with 2 if the words of the call are wrong. Only the program says whether a script is refused, for which cause and at which place.
+PROGRAM is crates/am_sim/out/am_sim by default. COMMAND is `play`, `race` or `audit`; by default it is the script's own key, or `play` if there
+is none. For `audit` it shows the bad line of the text, and says what may stand there. It ends with 0 if the program takes the input, with 1 if it
+doesn't, and with 2 if its arguments are wrong. Only the program says whether a script is refused, for which cause and at which place.
 To find the key, this asks the program again about small scripts. They have the event's keys up to one of them, in the order in which they are
 read, and lawful values after it. The first that the program refuses names the key.
 """

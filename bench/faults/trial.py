@@ -349,6 +349,8 @@ def waits(record: Record, since: float, until: float) -> tuple[float, float]:
 def tried(plan: Plan) -> Result:
     """A run, in namespaces and a folder of its own. The folder is kept where that is wanted and something is wrong."""
     network = Network(plan.kind.members)
+    if plan.keep:
+        pathlib.Path(plan.keep).mkdir(parents=True, exist_ok=True)
     folder = pathlib.Path(tempfile.mkdtemp(prefix="muoswyld-faults-", dir=plan.keep))
     result = Result(plan)
     try:

@@ -1,4 +1,5 @@
-/* A replicated counter at three members in one process, by muoswyld_group.h: commands, reads, a member that stops and comes back, and what is refused.
+/* A replicated counter at three members in one process, by muoswyld_group.h: commands, reads, a member that stops and comes back, the end of the list,
+   and what is refused.
    It is C99, and C++ too. gate/try_group_c.py builds and runs it.
 
        counter HOST PORT        the members' addresses are HOST:PORT and the ports after it
@@ -216,6 +217,24 @@ static void stop_and_return(member *members) {
     reads(members, 2, 116, 4);
 }
 
+/* The list ends, and another one follows it: the counters go on in that. */
+static void list_ends(member *members) {
+    muoswyld_service_info info;
+    muoswyld_status status;
+    muoswyld_answer answer;
+    time_t ends = time(NULL) + SOON;
+    while ((status = muoswyld_group_succeed(members[1].group, NULL, 1000 * SOON, NULL)) != MUOSWYLD_STATUS_OK) {
+        /* it may not be ended as long as the place that came back isn't heard */
+        WANT(status == MUOSWYLD_STATUS_NOT_NOW || status == MUOSWYLD_STATUS_NOT_SUCCEEDED);
+        WANT(time(NULL) < ends);
+        IS(muoswyld_service_next(members[1].service, 50, &answer), MUOSWYLD_STATUS_TIMEOUT);
+    }
+    add(members, 0, 4, 120);
+    reads(members, 2, 120, 6);
+    OK(muoswyld_service_status(members[2].service, &info));
+    WANT(info.applied.generation == 1 && info.holders.lives[0] == 1);
+}
+
 int main(int words, char **word) {
     static char name[MEMBERS][2] = {"0", "1", "2"};
     static member members[MEMBERS];
@@ -243,6 +262,7 @@ int main(int words, char **word) {
     stop_and_return(members);
     lengths(members, 116);
     reads(members, 0, 116, 5);
+    list_ends(members);
     failure(members);
     for (k = 0; k < MEMBERS; k++) {
         muoswyld_service_free(members[k].service);

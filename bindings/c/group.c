@@ -1,5 +1,5 @@
 /* Three members of a group in one process, by muoswyld_group.h: sends from threads and by tickets, deliveries in one order by poll, a reset after one
-   stops, its place's return, leaves, and what each call refuses. It is C99, and C++ too. gate/try_group_c.py builds and runs it.
+   stops, its place's return, ends of lists, folders of state, leaves, and what each call refuses. It is C99, and C++ too. gate/try_group_c.py builds and runs it.
 
        group HOST PORT        the members' addresses are HOST:PORT and the ports after it
 
@@ -324,6 +324,54 @@ static void refusals(void) {
     muoswyld_config_free(NULL);
 }
 
+/* A group of one with a folder of state, whose list ends by itself. A life never begins twice, and the place's next one is known. */
+static void by_itself(void) {
+    char folder[] = "/tmp/muoswyld-group-XXXXXX", path[64], text[80];
+    muoswyld_config *config;
+    muoswyld_group *group;
+    muoswyld_delivery delivery;
+    int k;
+    OK(muoswyld_config_new("0", "0", &config));
+    snprintf(text, sizeof text, "%s:%d", host, first_port + 4);
+    OK(muoswyld_config_address(config, 0, text));
+    OK(muoswyld_config_insecure(config));
+    OK(muoswyld_config_start_within(config, SOON));
+    IS(muoswyld_config_voters(config, "0,x"), MUOSWYLD_STATUS_BAD_NAME);
+    OK(muoswyld_config_voters(config, "0"));
+    IS(muoswyld_group_found(config), MUOSWYLD_STATUS_BAD_VALUE);
+    IS(muoswyld_config_next_life(config, 0), MUOSWYLD_STATUS_BAD_VALUE);
+    WANT(mkdtemp(folder) != NULL);
+    snprintf(path, sizeof path, "%s/state", folder);
+    OK(muoswyld_config_state(config, path));
+    IS(muoswyld_group_start(config, &group), MUOSWYLD_STATUS_BAD_STATE);
+    OK(muoswyld_group_found(config));
+    IS(muoswyld_group_found(config), MUOSWYLD_STATUS_BAD_STATE);
+    OK(muoswyld_config_lease(config, 1, 100));
+    IS(muoswyld_group_start(config, &group), MUOSWYLD_STATUS_BAD_VALUE);
+    OK(muoswyld_config_command(config, "/bin/false", 1000));
+    OK(muoswyld_config_told(config));
+    OK(muoswyld_config_echo(config));
+    OK(muoswyld_config_succeed_at(config, 16, 0));
+    IS(muoswyld_group_start(config, &group), MUOSWYLD_STATUS_BAD_VALUE);
+    OK(muoswyld_config_succeed_at(config, 1, 2000000000 - 5));
+    OK(muoswyld_config_next_life(config, 0));
+    OK(muoswyld_group_start(config, &group));
+    for (k = 0; k < 20; k++)
+        OK(muoswyld_group_send(group, NULL, 0, SOON, NULL));
+    while ((delivery = next_of(group)).kind != MUOSWYLD_KIND_SUCCEEDED)
+        muoswyld_delivery_clear(&delivery);
+    muoswyld_group_free(group);
+    IS(muoswyld_group_start(config, &group), MUOSWYLD_STATUS_BAD_STATE);
+    WANT(strstr(muoswyld_config_error(config), "was begun") != NULL);
+    OK(muoswyld_config_next_life(config, 0));
+    OK(muoswyld_config_start_within(config, 50));
+    /* its only member is gone, so it waits in vain */
+    IS(muoswyld_group_start(config, &group), MUOSWYLD_STATUS_TIMEOUT);
+    muoswyld_config_free(config);
+    snprintf(text, sizeof text, "rm -r %s", folder);
+    WANT(system(text) == 0);
+}
+
 int main(int words, char **word) {
     static char name[MEMBERS][2] = {"0", "1", "2"};
     muoswyld_group *groups[MEMBERS];
@@ -337,6 +385,7 @@ int main(int words, char **word) {
     host = word[1];
     first_port = atoi(word[2]);
     refusals();
+    by_itself();
     for (member = 0; member < MEMBERS; member++)
         WANT(pthread_create(&threads[member], NULL, create, name[member]) == 0);
     for (member = 0; member < MEMBERS; member++) {

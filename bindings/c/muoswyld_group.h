@@ -312,6 +312,10 @@ typedef enum {
      Another member ended the list, and the next one has other numbers or voters than were asked for.
      */
     MUOSWYLD_STATUS_OTHERWISE = 32,
+    /*
+     The place's folder of state isn't made, isn't the place's, is used by another process, or says that the life was begun before.
+     */
+    MUOSWYLD_STATUS_BAD_STATE = 33,
 } muoswyld_status;
 
 /*
@@ -865,6 +869,15 @@ muoswyld_status muoswyld_group_create(muoswyld_config *config,
                                       muoswyld_group **group);
 
 /*
+ Creates a group or joins one, as the name says: a founder's first life in its list creates, any other name joins. Beside what both say it answers
+ MUOSWYLD_STATUS_BAD_STATE if the life was begun before, another process of the place runs, or the folder of state isn't the place's.
+
+ From any thread, as long as no other call uses the config.
+ */
+muoswyld_status muoswyld_group_start(muoswyld_config *config,
+                                     muoswyld_group **group);
+
+/*
  JoinGroup: joins a group; the member's name is none of the founders, or a later life of a founder's place. It returns once the member is in the
  group, whose entries it is given from its own join on. A name never runs twice: a place whose process ended comes back as its next life.
 
@@ -1116,6 +1129,73 @@ muoswyld_status muoswyld_service_status(const muoswyld_service *service, muoswyl
  A sentence on how the service ended; NULL while it runs, or if `service` is NULL. The text is the service's, and stays until that is freed.
  */
 const char *muoswyld_service_end_text(const muoswyld_service *service);
+
+/*
+ The place's folder of state, on a local disk, as muoswyld_group_found makes it: which life was begun last, and whom the place has refused. With it no
+ life runs twice, and no two processes of the place run at a time. MUOSWYLD_STATUS_BAD_VALUE if the path isn't UTF-8.
+ */
+muoswyld_status muoswyld_config_state(muoswyld_config *config,
+                                      const char *path);
+
+/*
+ The places that vote who has stopped, as "0,1,2": some of the founders, odd in number; all founders if it isn't set. With voters and a folder of state
+ the policy is that of muoswyld_config_echo if none is set, and else that of muoswyld_config_told. MUOSWYLD_STATUS_BAD_NAME if it is no set of names.
+ */
+muoswyld_status muoswyld_config_voters(muoswyld_config *config,
+                                       const char *voters);
+
+/*
+ A name has stopped once muoswyld_group_stopped says so (docs/FAILURES.md, for all policies).
+ */
+muoswyld_status muoswyld_config_told(muoswyld_config *config);
+
+/*
+ A name has stopped once a majority of the voters has refused it, each on its disk.
+ */
+muoswyld_status muoswyld_config_echo(muoswyld_config *config);
+
+/*
+ The same, and its lease of so many milliseconds is over. The rate of a running machine's clock differs from real time by so many thousandths at most.
+ */
+muoswyld_status muoswyld_config_lease(muoswyld_config *config,
+                                      uint32_t milliseconds,
+                                      uint32_t drift);
+
+/*
+ A name has stopped once a program that is run with the name, which ends its process or its machine, ended with 0. After so many milliseconds the
+ program is killed, and tried again later. MUOSWYLD_STATUS_BAD_VALUE if the path isn't UTF-8.
+ */
+muoswyld_status muoswyld_config_command(muoswyld_config *config,
+                                        const char *program,
+                                        uint32_t milliseconds);
+
+/*
+ Has the list end by itself, and another one follow it, once a member's place has at most so many lives left, 0 to 15, or at most so many numbers of
+ entries are left, of 2,000,000,000. All members are given the same. If it isn't set the list ends only by muoswyld_group_succeed.
+ */
+muoswyld_status muoswyld_config_succeed_at(muoswyld_config *config,
+                                           uint8_t lives,
+                                           uint32_t numbers);
+
+/*
+ Has the config name the place's next life that was never begun, in the latest list of the group: as its folder of state says, and members at the other
+ addresses that answer in this time. Set the addresses, the key and the folder before, and start the member by muoswyld_group_start.
+
+ MUOSWYLD_STATUS_BAD_STATE if the folder isn't the place's, or has no life left, _BAD_VALUE if there is none, _NO_ADDRESS if the place has none, and _SYSTEM
+ if the system refused a socket or the members run another version. If nobody answers, the folder's word is taken.
+ */
+muoswyld_status muoswyld_config_next_life(muoswyld_config *config,
+                                          int timeout_ms);
+
+/*
+ Makes the folder of state of a name that runs for the first time: once for each place, when the group is founded, with the settings with which it will
+ run. A founder's place that votes has its voter's file in it. A place that lost its disk has a new folder made with a life that was never begun: it votes
+ no more.
+
+ MUOSWYLD_STATUS_BAD_STATE if the folder has a state already or can't be made, and _BAD_VALUE if no folder is set or a voter is no founder;
+ muoswyld_config_error says more.
+ */
+muoswyld_status muoswyld_group_found(muoswyld_config *config);
 
 /*
  A sentence for a status, in English, without a newline and without a full stop. "no such status" for a number that is none.

@@ -140,6 +140,63 @@ class Groups(unittest.TestCase):
             for group in groups:
                 group.close()
 
+    def test_a_place_comes_back_by_its_folder(self) -> None:
+        """With voters and folders of state the others find out by themselves that a member has stopped, and it comes back in the list that follows."""
+        where = addresses()
+        with tempfile.TemporaryDirectory() as folder:
+            more = [{"state": pathlib.Path(folder) / name, "voters": "0,1,2"} for name in "012"]
+            for name, settings in zip("012", more, strict=True):
+                Group.found(config(name, where, **settings))
+                with self.assertRaisesRegex(muoswyld.BadState, "has the state of a place already"):
+                    Group.found(config(name, where, **settings))
+            made = together([lambda name=name: Group.start(config(name, where, **more[int(name)])) for name in "012"])
+            assert all(isinstance(group, Group) for group in made), made
+            groups: list[Group] = made  # type: ignore[assignment]
+            try:
+                with self.assertRaisesRegex(muoswyld.BadState, "another process of the place runs"):
+                    Group.start(config("2", where, **more[2]))
+                groups[2].stop()
+                groups[2].wait(SOON)
+                while until(groups[0], View)[-1].members != (Name(0), Name(1)):
+                    pass
+                with self.assertRaisesRegex(muoswyld.BadState, "2 was begun already"):
+                    Group.start(config("2", where, **more[2]))
+                with Group.start(config("2", where, next_life=True, **more[2])) as back:
+                    self.assertEqual(back.name, Name(2, 2))
+                    back.send(b"back", SOON)
+                    self.assertEqual(messages(groups[0], 1)[0].message, b"back")
+                self.succeed(groups[0])
+                with Group.start(config("2", where, next_life=True, **more[2])) as again:
+                    self.assertEqual((again.name, again.info().generation), (Name(2), 1))
+                    again.send(b"again", SOON)
+            finally:
+                for group in groups:
+                    group.close()
+
+    def succeed(self, group: Group) -> None:
+        """Ends the list, and again as long as that can't be now."""
+        ends = time.monotonic() + SOON
+        while True:
+            try:
+                group.succeed(timeout=SOON)
+                return
+            except (muoswyld.NotNow, muoswyld.NotSucceeded):
+                self.assertLess(time.monotonic(), ends)
+                time.sleep(0.05)
+
+    def test_a_list_ends_by_itself(self) -> None:
+        """A list ends once as few numbers are left as the config says; a config says that within its limits."""
+        with one(addresses(), succeed_at_numbers=2_000_000_000 - 5) as group:
+            for k in range(20):
+                group.send(b"%d" % k, SOON)
+            self.assertIsInstance(until(group, Succeeded)[-1], Succeeded)
+            self.assertGreater(group.info().generation, 0)
+        for wrong in ({"succeed_at_lives": 16}, {"succeed_at_numbers": -1}, {"policy": "guess"}, {"policy": "command"}, {"voters": "5", "policy": "echo"}):
+            with self.assertRaises(muoswyld.BadValue):
+                one(addresses(), **wrong)
+        with self.assertRaises(muoswyld.BadName):
+            one(addresses(), voters="x")
+
     def test_stop_reset_return_leave(self) -> None:
         """A member stops, the others are told and reset; its place comes back, and leaves."""
         where = addresses()

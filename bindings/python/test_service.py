@@ -4,6 +4,7 @@ import asyncio
 import contextlib
 import os
 import resource
+import time
 import unittest
 from collections.abc import Iterator
 
@@ -41,6 +42,18 @@ class Misreading(Counter):
     def restore(self, record: bytes) -> None:
         """Refuses it."""
         raise LookupError("as asked")
+
+
+def end_list(group: Group) -> None:
+    """Ends a group's list, as soon as that may be."""
+    until = time.monotonic() + SOON
+    while time.monotonic() < until:
+        try:
+            group.succeed(timeout=SOON)
+            return
+        except (muoswyld.NotNow, muoswyld.NotSucceeded):
+            time.sleep(0.05)
+    raise AssertionError("the list doesn't end")
 
 
 def total(machine: Counter) -> int:
@@ -84,6 +97,23 @@ class Services(unittest.IsolatedAsyncioTestCase):
             each.close()
             each.close()
 
+    def test_ends_of_lists(self) -> None:
+        """Commands that are under way when lists end are applied once each, and all counters go on."""
+        groups = three(addresses())
+        services = [Service(group, Counter()) for group in groups]
+        given = []
+        for group in groups:
+            given += [service.submit(b"1") for service in services for _ in range(100)]
+            end_list(group)
+            given += [service.submit(b"1") for service in services for _ in range(100)]
+        self.assertEqual(sorted(int(future.result(SOON)) for future in given), [*range(1, 1_801)])
+        for service in services:
+            self.assertEqual(service.read(total), 1_800)
+            applied = service.info().applied
+            self.assertEqual(applied and applied.generation, 3)
+        for each in (*services, *groups):
+            each.close()
+
     def test_failures(self) -> None:
         """A machine that raises something ends its service, with that as the cause; so does one that calls its own service."""
 
@@ -112,6 +142,7 @@ class Services(unittest.IsolatedAsyncioTestCase):
                 with self.assertLogs("muoswyld", "ERROR"), Service(other, Misreading()) as misreading, self.assertRaises(muoswyld.ServiceEnded) as spoilt:
                     misreading.wait_ready(SOON)
                 self.assertIsInstance(spoilt.exception.__cause__, LookupError)
+                self.assertEqual(service.read(total, SOON), 7)
                 self.assertEqual(service.read_local(total), 7)
         where = addresses()
         with one(where) as founder, Group.join(config("1", where, founders="0", resilience=0, least=1)) as group, Service(group, Counter()) as service:

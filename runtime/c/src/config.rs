@@ -34,7 +34,7 @@ impl muoswyld_config {
 /// # Safety
 /// The pointer is null, or a config's that nobody else uses now.
 // SAFETY: whoever calls it keeps to the above
-unsafe fn change(
+pub(crate) unsafe fn change(
     config: *mut muoswyld_config,
     how: impl FnOnce(Config) -> Result<Config, Problem>,
 ) -> Done {

@@ -16,6 +16,7 @@ mod info;
 mod machine;
 mod member;
 mod service;
+mod state;
 mod status;
 #[cfg(test)]
 mod tests;

@@ -137,6 +137,19 @@ pub unsafe extern "C" fn muoswyld_group_create(
     unsafe { start(config, group, Group::create) }
 }
 
+/// Creates a group or joins one, as the name says: a founder's first life in its list creates, any other name joins. Beside what both say it answers
+/// MUOSWYLD_STATUS_BAD_STATE if the life was begun before, another process of the place runs, or the folder of state isn't the place's.
+///
+/// From any thread, as long as no other call uses the config.
+#[no_mangle]
+pub unsafe extern "C" fn muoswyld_group_start(
+    config: *mut muoswyld_config,
+    group: *mut *mut muoswyld_group,
+) -> muoswyld_status {
+    // SAFETY: the caller's pointers
+    unsafe { start(config, group, Group::start) }
+}
+
 /// JoinGroup: joins a group; the member's name is none of the founders, or a later life of a founder's place. It returns once the member is in the
 /// group, whose entries it is given from its own join on. A name never runs twice: a place whose process ended comes back as its next life.
 ///

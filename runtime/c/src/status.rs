@@ -77,10 +77,12 @@ pub enum muoswyld_status {
     NotSucceeded = 31,
     /// Another member ended the list, and the next one has other numbers or voters than were asked for.
     Otherwise = 32,
+    /// The place's folder of state isn't made, isn't the place's, is used by another process, or says that the life was begun before.
+    BadState = 33,
 }
 
 /// Each status, in the order of their numbers, with a sentence that ends with a zero.
-const TEXTS: [(muoswyld_status, &str); 33] = {
+const TEXTS: [(muoswyld_status, &str); 34] = {
     use muoswyld_status::*;
     [
         (Ok, "it is done\0"),
@@ -142,6 +144,10 @@ const TEXTS: [(muoswyld_status, &str); 33] = {
         (
             Otherwise,
             "another member ended the list, with other numbers or voters\0",
+        ),
+        (
+            BadState,
+            "the folder of state isn't made or isn't the place's, or the life was begun before\0",
         ),
     ]
 };
@@ -212,7 +218,13 @@ impl From<&CreateError> for muoswyld_status {
             CreateError::NoAddress(_) => muoswyld_status::NoAddress,
             CreateError::NoFounder(_) => muoswyld_status::NoFounder,
             CreateError::Founder(_) => muoswyld_status::Founder,
-            CreateError::Member(_) => muoswyld_status::BadValue,
+            CreateError::Member(_)
+            | CreateError::Voter(_)
+            | CreateError::NoState
+            | CreateError::Failures(_) => muoswyld_status::BadValue,
+            CreateError::State(_) | CreateError::NoLife | CreateError::OtherList => {
+                muoswyld_status::BadState
+            }
             CreateError::NoKey => muoswyld_status::NoKey,
             CreateError::System(_) => muoswyld_status::System,
             CreateError::Timeout => muoswyld_status::Timeout,
@@ -316,7 +328,7 @@ mod tests {
         }
         for (number, wanted) in [
             (10, "the time passed"),
-            (33, "no such status"),
+            (34, "no such status"),
             (-1, "no such status"),
         ] {
             // SAFETY: the function answers a text that ends with a zero and stays

@@ -5,6 +5,7 @@ use crate::info::muoswyld_group_version;
 use crate::machine::muoswyld_records_add;
 use crate::member::*;
 use crate::service::*;
+use crate::state::*;
 use crate::status::{muoswyld_end, muoswyld_status, muoswyld_status_text};
 use crate::types::*;
 use std::cell::Cell;
@@ -41,7 +42,10 @@ fn config() -> *mut muoswyld_config {
 
 fn read(text: *const c_char) -> String {
     // SAFETY: a text of the library, which ends with a zero
-    unsafe { CStr::from_ptr(text) }.to_str().unwrap().into()
+    unsafe { CStr::from_ptr(text) }
+        .to_str()
+        .expect("UTF-8")
+        .into()
 }
 
 /// A group of one on this machine, with its settings.
@@ -136,6 +140,37 @@ fn statuses(
             (
                 "muoswyld_config_start_within",
                 muoswyld_config_start_within(config, 9),
+            ),
+            (
+                "muoswyld_config_state",
+                muoswyld_config_state(config, null()),
+            ),
+            (
+                "muoswyld_config_voters",
+                muoswyld_config_voters(config, null()),
+            ),
+            ("muoswyld_config_told", muoswyld_config_told(config)),
+            ("muoswyld_config_echo", muoswyld_config_echo(config)),
+            (
+                "muoswyld_config_lease",
+                muoswyld_config_lease(config, 1000, 100),
+            ),
+            (
+                "muoswyld_config_command",
+                muoswyld_config_command(config, null(), 9),
+            ),
+            (
+                "muoswyld_config_succeed_at",
+                muoswyld_config_succeed_at(config, 1, 9),
+            ),
+            (
+                "muoswyld_config_next_life",
+                muoswyld_config_next_life(config, 0),
+            ),
+            ("muoswyld_group_found", muoswyld_group_found(config)),
+            (
+                "muoswyld_group_start",
+                muoswyld_group_start(config, null_mut()),
             ),
             ("muoswyld_key_random", muoswyld_key_random(null_mut(), 32)),
             (
@@ -237,6 +272,7 @@ fn all_calls_are_tried_here() {
         include_str!("machine.rs"),
         include_str!("member.rs"),
         include_str!("service.rs"),
+        include_str!("state.rs"),
         include_str!("status.rs"),
         include_str!("types.rs"),
     ];

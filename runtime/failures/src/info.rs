@@ -26,6 +26,8 @@ pub struct Info {
     pub suspects: NameSet,
     /// Whom its place has refused.
     pub refused: NameSet,
+    /// Members that any voter has refused, as it said, and that haven't stopped. As long as there are some the list isn't ended.
+    pub refused_members: NameSet,
     /// Who has stopped for certain.
     pub stopped: NameSet,
     /// Why its place isn't a voter, if it isn't.
@@ -45,10 +47,21 @@ impl Failures {
                 .voter
                 .as_ref()
                 .map_or(NameSet::default(), |v| v.refused()),
+            refused_members: self
+                .view
+                .without(&self.stopped)
+                .among(&self.refused_by_any()),
             stopped: self.stopped,
             no_voter: self.no_voter,
             blocked: self.blocked(),
         }
+    }
+
+    /// Whom any voter has refused, as it said.
+    fn refused_by_any(&self) -> NameSet {
+        let own = self.voter.as_ref().map(|voter| voter.refused());
+        let said = self.peers.all.values().map(|peer| peer.refuses);
+        said.fold(own.unwrap_or_default(), |all, refuses| all.and(&refuses))
     }
 
     /// Whether nothing is wrong with any member of the view, as far as it is known here: each was heard lately, and none is suspected,
@@ -66,16 +79,10 @@ impl Failures {
             fresh.has(name) && peer.is_some_and(|peer| peer.frozen_since.is_none())
         };
         let mut troubled = self.peers.suspects.and(&self.candidate.wants);
-        for (name, peer) in &self.peers.all {
-            troubled = troubled.and(&peer.refuses);
-            if fresh.has(*name) {
-                troubled = troubled.and(&peer.suspects).and(&peer.wants);
-            }
+        for (_, peer) in self.fresh_peers() {
+            troubled = troubled.and(&peer.suspects).and(&peer.wants);
         }
-        let refused = self.voter.as_ref().map(|voter| voter.refused());
-        let troubled = troubled
-            .and(&refused.unwrap_or_default())
-            .and(&self.stopped);
+        let troubled = troubled.and(&self.refused_by_any()).and(&self.stopped);
         self.view.has(me)
             && self.frozen_since().is_none()
             && self.view.among(&troubled).is_empty()

@@ -27,7 +27,7 @@ mod voter;
 pub use crate::core::Failures;
 pub use event::{Input, NoVoter, Notice, Output};
 pub use info::{Blocked, Info};
-pub use message::{Echo, Heard, Heartbeat, Message};
+pub use message::{is_message, Echo, Heard, Heartbeat, Message};
 pub use names::{places_of, Name, NameSet, Places};
 pub use settings::{Lease, Plant, Policy, Settings, StartError};
 pub use time::Time;

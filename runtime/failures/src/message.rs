@@ -5,6 +5,7 @@
 //! | `10`, heartbeat | id (16), name (1), process (8), sequence (8), flags (1: bit 0 asks, bit 1 votes, bit 2 frozen), counter (8), frozen for (8), seven sets of names (32 each): members, suspects, wants, refuses, ripe, stopped, words; a count (1) and so many heard; a count (1) and so many counters |
 //! | `11`, echo | id (16), the voter's name (1), its counter (8), then one heard |
 //! | `12`, closed | id (16), the name that it is for (1) |
+//! | `13`, elsewhere | id (16), the name that it is for (1), the speaker's place (1), how many lists came before its latest one (4) |
 //!
 //! A heard is a name (1), its process (8) and a sequence (8). A counter is a place (1) and a counter (8). A set of names has a bit for
 //! each byte of a name: the first byte has bytes 63 to 56, the most significant bit first, as four words of 64 bits.
@@ -14,6 +15,7 @@ use crate::names::{Name, NameSet};
 const HEARTBEAT: u8 = 0x10;
 const ECHO: u8 = 0x11;
 const CLOSED: u8 = 0x12;
+const ELSEWHERE: u8 = 0x13;
 const ASKS: u8 = 1;
 const VOTES: u8 = 2;
 const FROZEN: u8 = 4;
@@ -92,6 +94,23 @@ pub enum Message {
         /// Whom it is for.
         to: Name,
     },
+    /// The speaker doesn't serve the list of this id. If its latest list is a later one, its place never will: a place that began in a later
+    /// list serves no earlier one.
+    Elsewhere {
+        /// The list's id.
+        id: [u8; 16],
+        /// Whom it is for.
+        to: Name,
+        /// The speaker's place.
+        place: u8,
+        /// How many lists came before the speaker's latest one.
+        generation: u32,
+    },
+}
+
+/// Whether a payload is a message of this crate, by its first byte.
+pub fn is_message(payload: &[u8]) -> bool {
+    matches!(payload.first(), Some(HEARTBEAT..=ELSEWHERE))
 }
 
 struct Bytes<'a>(&'a [u8]);
@@ -238,6 +257,17 @@ impl Message {
                 bytes.extend(id);
                 bytes.push(to.byte());
             }
+            Message::Elsewhere {
+                id,
+                to,
+                place,
+                generation,
+            } => {
+                bytes.push(ELSEWHERE);
+                bytes.extend(id);
+                bytes.extend([to.byte(), *place]);
+                bytes.extend(generation.to_be_bytes());
+            }
         }
         bytes
     }
@@ -251,6 +281,12 @@ impl Message {
             CLOSED => Message::Closed {
                 id: bytes.take()?,
                 to: Name::of_byte(bytes.u8()?),
+            },
+            ELSEWHERE => Message::Elsewhere {
+                id: bytes.take()?,
+                to: Name::of_byte(bytes.u8()?),
+                place: bytes.u8().filter(|place| *place < 16)?,
+                generation: bytes.take().map(u32::from_be_bytes)?,
             },
             _ => return None,
         };

@@ -182,7 +182,7 @@ impl Settings {
     }
 
     /// How many of the voters are a majority.
-    pub(crate) fn majority(&self) -> usize {
+    pub fn majority(&self) -> usize {
         let count = self.voters.count_ones() as usize;
         match self.plant {
             Some(Plant::HalfIsEnough) if count.is_multiple_of(2) => count / 2,

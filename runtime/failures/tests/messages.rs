@@ -38,6 +38,14 @@ impl Draw {
             let to = Name::of_byte(self.word() as u8);
             return Message::Closed { id, to };
         }
+        if self.word().is_multiple_of(5) {
+            return Message::Elsewhere {
+                id,
+                to: Name::of_byte(self.word() as u8),
+                place: self.word() as u8 % 16,
+                generation: self.word() as u32,
+            };
+        }
         if self.word().is_multiple_of(2) {
             return Message::Echo(Echo {
                 id,

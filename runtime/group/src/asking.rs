@@ -27,7 +27,7 @@ const AGAIN: Duration = Duration::from_millis(200);
 /// How long others are waited for after the first answer: one of them may know a later list.
 const OTHERS: Duration = Duration::from_millis(250);
 /// The first line of an answer: what it is, and the version of its form.
-const FORM: &str = "muoswyld 2";
+const FORM: &str = "muoswyld 3";
 /// More bytes than a datagram with an answer has.
 const MOST_BYTES: usize = 4096;
 
@@ -364,7 +364,7 @@ mod tests {
         assert!(facts(format!("{FORM}\n{rest}")));
         // as the version before this one had it, and a later one
         assert!(!facts(rest.clone()));
-        assert!(!facts(format!("muoswyld 3\n{rest}")));
+        assert!(!facts(format!("muoswyld 4\n{rest}")));
     }
 
     #[test]

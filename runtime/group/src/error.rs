@@ -53,6 +53,9 @@ impl From<muoswyld_member::End> for End {
             muoswyld_member::End::OtherVersion => End::OtherVersion,
             muoswyld_member::End::NoNumbersLeft => End::NoNumbersLeft,
             muoswyld_member::End::NodeFailed => End::Failed("its node gave no answer".into()),
+            muoswyld_member::End::ContentsLost => {
+                End::Failed("the contents of an entry are missing, or aren't what it names".into())
+            }
         }
     }
 }
@@ -87,6 +90,12 @@ pub enum CreateError {
     /// The folder of state isn't made, or isn't taken.
     #[error(transparent)]
     State(#[from] StateError),
+    /// The place has no life left in the latest list of its group.
+    #[error("the place has no life left")]
+    NoLife,
+    /// The folder of state has another list of the same generation than the members.
+    #[error("the folder of state has another list than the other members")]
+    OtherList,
     /// The settings of who has stopped can't work.
     #[error(transparent)]
     Failures(#[from] muoswyld_failures::StartError),

@@ -195,6 +195,8 @@ pub struct FailuresInfo {
     pub suspects: Vec<Name>,
     /// Whom its place has refused.
     pub refused: Vec<Name>,
+    /// Members that any voter has refused, as it said, and that haven't stopped. As long as there are some the list isn't ended: end their processes.
+    pub refused_members: Vec<Name>,
     /// Who has stopped for certain.
     pub stopped: Vec<Name>,
     /// Whether its place votes.
@@ -233,6 +235,7 @@ impl FailuresInfo {
             frozen_for: info.frozen_since.map(|frozen| since(frozen.0, now)),
             suspects: names(info.suspects),
             refused: names(info.refused),
+            refused_members: names(info.refused_members),
             stopped: names(info.stopped),
             votes: has_voters && info.no_voter.is_none(),
             why_no_vote: info.no_voter.filter(|_| has_voters).map(why_no_voter),

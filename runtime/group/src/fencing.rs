@@ -12,6 +12,7 @@ use std::path::{Path, PathBuf};
 use std::process::{Child, ExitStatus, Stdio};
 use std::sync::mpsc::{channel, Receiver, Sender};
 use std::sync::Arc;
+use std::thread::JoinHandle;
 use std::time::{Duration, Instant};
 
 /// How often it is looked whether a program has ended.
@@ -35,8 +36,18 @@ pub(crate) struct Fencing {
     shared: Arc<Shared>,
     program: Option<PathBuf>,
     tasks: Option<Sender<Task>>,
-    /// The place's folder is its own as long as this lives, or a write is under way.
-    _state: Option<Arc<State>>,
+    /// The thread that writes. The place's folder is its own as long as that lives.
+    writer: Option<JoinHandle<()>>,
+}
+
+impl Drop for Fencing {
+    /// Waits until all is written: then another process may have the folder.
+    fn drop(&mut self) {
+        self.tasks = None;
+        if let Some(writer) = self.writer.take() {
+            let _ended = writer.join();
+        }
+    }
 }
 
 impl Fencing {
@@ -46,16 +57,18 @@ impl Fencing {
         state: Option<State>,
         program: Option<PathBuf>,
     ) -> std::io::Result<Fencing> {
-        let state = state.map(Arc::new);
-        let tasks = match &state {
-            Some(state) => Some(writer(state.clone(), shared.clone())?),
-            None => None,
+        let (tasks, writer) = match state {
+            Some(state) => {
+                let (to, thread) = writer(state, shared.clone())?;
+                (Some(to), Some(thread))
+            }
+            None => (None, None),
         };
         Ok(Fencing {
             shared,
             program,
             tasks,
-            _state: state,
+            writer,
         })
     }
 
@@ -121,7 +134,7 @@ impl Fencing {
 }
 
 /// The thread that writes to the place's folder. It ends once nothing more is to be written.
-fn writer(state: Arc<State>, shared: Arc<Shared>) -> std::io::Result<Sender<Task>> {
+fn writer(state: State, shared: Arc<Shared>) -> std::io::Result<(Sender<Task>, JoinHandle<()>)> {
     let (to, from): (Sender<Task>, Receiver<Task>) = channel();
     let run = move || {
         for task in from {
@@ -132,7 +145,7 @@ fn writer(state: Arc<State>, shared: Arc<Shared>) -> std::io::Result<Sender<Task
         }
     };
     let thread = std::thread::Builder::new().name("voter".into());
-    thread.spawn(run).map(|_| to)
+    Ok((to, thread.spawn(run)?))
 }
 
 /// Does a task; what the member is told of it.

@@ -36,6 +36,7 @@ mod group;
 mod later;
 mod life;
 mod next;
+mod returning;
 mod seal;
 mod shared;
 mod shell;
@@ -59,6 +60,7 @@ pub use muoswyld_member::{
     StartError,
 };
 pub use next::{BadNextList, NextList};
+pub use returning::{latest_life, NextLife};
 pub use seal::Key;
 pub use state::{next_life, StateError};
 pub use ticket::Ticket;

@@ -27,13 +27,13 @@ pub(crate) fn file_of(kind: &str, generation: u32) -> String {
     }
 }
 
-/// The list of a life's file, by its name.
-pub(crate) fn generation_of(file: &str) -> Option<u32> {
-    if file == LIFE {
+/// The list of a file of this kind, by its name.
+pub(crate) fn generation_of(kind: &str, file: &str) -> Option<u32> {
+    if file == kind {
         return Some(0);
     }
-    let generation = file.strip_prefix(LIFE)?.strip_prefix('.')?.parse().ok()?;
-    (file_of(LIFE, generation) == file).then_some(generation)
+    let generation = file.strip_prefix(kind)?.strip_prefix('.')?.parse().ok()?;
+    (file_of(kind, generation) == file).then_some(generation)
 }
 
 /// What ends a life's file of a later list: eight bytes of a sum of what stands before.

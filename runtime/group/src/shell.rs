@@ -1,6 +1,7 @@
 //! A member's thread: it carries datagrams, time and commands to the member, and what the member answers to the network and to
 //! the callers.
 
+mod emitting;
 mod guarding;
 mod starting;
 mod succeeding;
@@ -11,16 +12,15 @@ use crate::config::{Callback, Config};
 use crate::error::{CreateError, End, ResetError, SendError, SucceedError, ToldError};
 use crate::fencing::Fencing;
 use crate::seal::Seal;
-use crate::shared::{is_counted, Command, Reset, Sent, Shared};
+use crate::shared::{Command, Reset, Sent, Shared};
 use crate::slot::Slot;
 use crate::socket::Udp;
 use muoswyld::names::{Name, Names};
 use muoswyld_guarded::Guarded;
 use muoswyld_member::{
-    Counts, Delivery, HandleError, Info, Input, NotReset, Notice, Output, Position, Released,
-    Successor, Time, Unsent,
+    Counts, Delivery, HandleError, Info, Input, NotReset, Notice, Released, Successor, Time,
 };
-use std::collections::{BTreeMap, HashMap};
+use std::collections::{BTreeMap, HashMap, VecDeque};
 use std::fs::File;
 use std::sync::Arc;
 use std::thread::JoinHandle;
@@ -48,6 +48,8 @@ struct Shell {
     successor: Option<Successor>,
     /// Who waits for the end of the list.
     enders: Vec<Ender>,
+    /// Messages, and a leave after them, that were taken of callers in the turn in which the list ended: they go first in the next one.
+    put_off: VecDeque<Command>,
     /// The members of ended lists at their ends, the last ones.
     ended: BTreeMap<u32, Names>,
     /// What was counted in ended lists.
@@ -91,6 +93,8 @@ pub(crate) fn start(config: Config) -> Result<(Arc<Shared>, JoinHandle<()>), Cre
         None => Seal::none(),
     };
     let own = starting::own_address(&config)?;
+    // before the address is bound: of two processes of a place the second one is told that
+    let state = starting::state_of(&config)?;
     let size = config.datagram + seal.overhead();
     let udp = Udp::bind(own, &config.addresses, size)?;
     let (starts, opened) = std::sync::mpsc::channel();
@@ -100,7 +104,7 @@ pub(crate) fn start(config: Config) -> Result<(Arc<Shared>, JoinHandle<()>), Cre
         .spawn(move || {
             // a node stays on the thread that opened it, so the member is made here
             let clock = Clock::new();
-            match starting::begun(settings, clock.now(), &config, callers.clone()) {
+            match starting::begun(settings, clock.now(), &config, callers.clone(), state) {
                 Ok((member, fencing, journal)) => {
                     // whoever started this waits for it
                     let _heard = starts.send(Ok(()));
@@ -110,6 +114,7 @@ pub(crate) fn start(config: Config) -> Result<(Arc<Shared>, JoinHandle<()>), Cre
                         known: asking::known(&config),
                         successor: None,
                         enders: Vec::new(),
+                        put_off: VecDeque::new(),
                         ended: BTreeMap::new(),
                         counts: Counts::default(),
                         told_early: Vec::new(),
@@ -147,7 +152,11 @@ pub(crate) fn start(config: Config) -> Result<(Arc<Shared>, JoinHandle<()>), Cre
         })?;
     match opened.recv() {
         Ok(Ok(())) => Ok((shared, thread)),
-        Ok(Err(error)) => Err(error),
+        Ok(Err(error)) => {
+            // then its socket is free, and its folder
+            let _ended = thread.join();
+            Err(error)
+        }
         // the thread ended before it said anything
         Err(_) => Err(CreateError::Ended(End::Failed("its thread ended".into()))),
     }
@@ -187,8 +196,11 @@ impl Shell {
     /// Until there may be something to do; whether a datagram can be read.
     fn rest(&mut self) -> bool {
         let left = self.member.wake().0.saturating_sub(self.now().0);
-        let most = Duration::from_micros(left);
-        let (descriptor, room) = (self.udp.descriptor(), self.member.free());
+        let most = match self.put_off.is_empty() || self.member.free() == 0 {
+            true => Duration::from_micros(left),
+            false => Duration::ZERO,
+        };
+        let (descriptor, room) = (self.udp.descriptor(), self.room());
         let until = (self.busy + self.spin).min(Instant::now() + most);
         match self.shared.look(descriptor, until, room) {
             Some(can_read) => can_read,
@@ -277,15 +289,15 @@ impl Shell {
             // what is taken now is given in this turn
             self.member.open(self.now());
         }
-        self.shared.take_commands(self.member.free(), &mut commands);
+        self.do_put_off();
+        self.shared.take_commands(self.room(), &mut commands);
         if !commands.is_empty() {
             self.busy = Instant::now();
         }
         let mut end = None;
         for command in commands.drain(..) {
             match command {
-                Command::Send { message, slot } => self.send(message, slot),
-                Command::Leave => self.handle(Input::Leave),
+                Command::Send { .. } | Command::Leave => self.do_in_order(command),
                 Command::Stopped {
                     name,
                     generation,
@@ -326,13 +338,11 @@ impl Shell {
     fn send(&mut self, message: Vec<u8>, slot: Arc<Slot<Sent>>) {
         let ticket = self.ticket(Waiter::Send(slot));
         let input = Input::Send { ticket, message };
-        if let Err(refusal) = self.member.handle(self.now(), input) {
-            let refusal = match refusal {
-                HandleError::TooLong { .. } => SendError::TooLong,
-                HandleError::Full { .. } => SendError::Full,
-                _ => SendError::Leaving,
-            };
-            self.sent(ticket, Err(refusal));
+        match self.member.handle(self.now(), input) {
+            Ok(()) => {}
+            Err(HandleError::Full { message, .. }) => self.put_off(ticket, message),
+            Err(HandleError::TooLong { .. }) => self.sent(ticket, Err(SendError::TooLong)),
+            Err(_) => self.sent(ticket, Err(SendError::Leaving)),
         }
     }
 
@@ -352,128 +362,6 @@ impl Shell {
         }
     }
 
-    /// Lets out what came of all that, or holds it: all or nothing. The end, if the member has ended.
-    fn let_out(&mut self) -> Option<End> {
-        self.member.fix(self.now());
-        if let Some(end) = self.do_deeds() {
-            return Some(end);
-        }
-        // read after the batch was complete
-        if !self.member.look(self.now()) {
-            self.udp.flush();
-            return None;
-        }
-        let end = self.emit();
-        let now = self.now();
-        self.member.emitted(now);
-        let consumed = std::mem::take(&mut self.consumed);
-        if consumed > 0 {
-            self.handle(Input::Consumed(consumed));
-        }
-        end
-    }
-
-    /// Lets all of a batch out: the journal's lines first, then datagrams, then deliveries and answers. Meanwhile the member is given
-    /// nothing. The end, if it has ended.
-    fn emit(&mut self) -> Option<End> {
-        let mut outputs = std::mem::take(&mut self.outputs);
-        self.member.batch(self.now(), &mut outputs);
-        let mut end = None;
-        for Released { generation, output } in outputs.drain(..) {
-            match output {
-                Output::Journal(line) => {
-                    if let Err(error) = self.write(generation, &line) {
-                        return Some(End::Failed(format!(
-                            "the journal can't be written: {error}"
-                        )));
-                    }
-                }
-                Output::Datagram { to, payload } => self.push(to, &payload),
-                Output::Deliver(delivery) => {
-                    // a founder's first view, or a joiner's own join, comes first
-                    self.shared.is_in.fill(true);
-                    self.deliver(delivery);
-                }
-                Output::Settled { ticket, result } => self.settle(ticket, result),
-                Output::ResetDone { ticket, result } => {
-                    self.was_reset(ticket, result.map_err(ResetError::NotReset));
-                }
-                Output::Told(notice) => {
-                    self.tell(notice);
-                    if notice == Notice::NotSucceeded {
-                        self.not_succeeded();
-                    }
-                }
-                Output::Succeeded(next) => self.succeeded(generation, next),
-                Output::Ended(ended) => end = Some(ended.into()),
-            }
-        }
-        self.outputs = outputs;
-        self.udp.flush();
-        let has_some = !self.deliveries.is_empty();
-        self.shared.deliver(&mut self.deliveries);
-        if has_some {
-            self.tell_arrival();
-        }
-        end
-    }
-
-    fn tell_arrival(&self) {
-        if let Some(call) = &self.on_arrival {
-            (call.0)(());
-        }
-    }
-
-    /// Gives a delivery to the application's call, or adds it to those that wait.
-    fn deliver(&mut self, delivery: Delivery) {
-        match &self.on_delivery {
-            Some(call) => {
-                self.consumed += usize::from(is_counted(&delivery));
-                (call.0)(delivery);
-            }
-            None => self.deliveries.push(delivery),
-        }
-    }
-
-    fn tell(&self, notice: Notice) {
-        match &self.on_notice {
-            Some(call) => (call.0)(notice),
-            None => tracing::warn!("{notice}"),
-        }
-    }
-
-    fn push(&mut self, to: Names, payload: &[u8]) {
-        if self.seal.seal(payload, &mut self.datagram) {
-            let places = to.iter().map(|name| name.place());
-            self.udp.push(&self.datagram, places);
-        }
-    }
-
-    /// A message was delivered, or won't be.
-    fn settle(&mut self, ticket: u64, result: Result<Position, Unsent>) {
-        let ended = || {
-            let ended = self.member.member().info().ended;
-            ended.map_or(End::Stopped, End::from)
-        };
-        let result = result.map_err(|why| match why {
-            Unsent::NotSent => SendError::NotSent(ended()),
-            Unsent::Unknown => SendError::Ended(ended()),
-        });
-        self.sent(ticket, result);
-    }
-
-    fn sent(&mut self, ticket: u64, result: Sent) {
-        if let Some(Waiter::Send(slot)) = self.waiters.remove(&ticket) {
-            slot.fill(result);
-        }
-    }
-
-    fn was_reset(&mut self, ticket: u64, result: Reset) {
-        if let Some(Waiter::Reset(slot)) = self.waiters.remove(&ticket) {
-            slot.fill(result);
-        }
-    }
-
     /// Ends the journal of a member that its caller stopped, and tells all who wait that the member has ended.
     fn close(&mut self, end: &End) {
         if !matches!(end, End::Failed(_)) {
@@ -482,7 +370,7 @@ impl Shell {
         self.close_enders(end);
         self.shared.deliver(&mut self.deliveries);
         let left = self.shared.close(end);
-        for command in left {
+        for command in std::mem::take(&mut self.put_off).into_iter().chain(left) {
             match command {
                 Command::Send { slot, .. } => slot.fill(Err(SendError::NotSent(end.clone()))),
                 Command::Reset { slot, .. } => slot.fill(Err(ResetError::Ended(end.clone()))),

@@ -15,6 +15,9 @@ const BATCH: usize = 64;
 const LEAST_BATCH: usize = 4;
 /// How many bytes the system keeps of what came and isn't read, as far as it allows.
 const KEPT: usize = 1 << 22;
+/// How many datagrams of one length the system is given as one message at most, and how many bytes: it cuts them (UDP_SEGMENT).
+const MOST_SEGMENTS: usize = 64;
+const MOST_SEGMENTED: usize = 65_000;
 
 /// A datagram that goes out: where its bytes stand in the batch, and to which place it goes.
 #[derive(Clone, Copy)]
@@ -48,6 +51,8 @@ pub struct Udp {
     expected: usize,
     bytes: Vec<u8>,
     outgoing: Vec<Outgoing>,
+    /// How many datagrams go out as one message at most: 1 if the system cuts none.
+    segments: usize,
     /// Datagrams that the system didn't take.
     pub unsent: u64,
 }
@@ -77,6 +82,7 @@ impl Udp {
             expected: LEAST_BATCH,
             bytes: Vec::new(),
             outgoing: Vec::new(),
+            segments: MOST_SEGMENTS,
             unsent: 0,
         })
     }
@@ -172,53 +178,138 @@ impl Udp {
 
     /// Sends all that was added. What the system doesn't take is lost, as a network loses it, and counted.
     pub fn flush(&mut self) {
+        // those of one place one after the other, in their order: runs of one length go out as one message
+        self.outgoing.sort_by_key(|outgoing| outgoing.place);
         let mut at = 0;
         while at < self.outgoing.len() {
-            let sent = self.send_batch(at);
-            if sent == 0 {
-                self.unsent += 1;
+            let run = self.run_at(at);
+            match self.send_batch(at) {
+                Ok(sent) if sent > 0 => at += sent,
+                Err(error) if run > 1 && cuts_nothing(&error) => self.segments = 1,
+                _ => {
+                    self.unsent += run as u64;
+                    at += run;
+                }
             }
-            at += sent.max(1);
         }
         self.outgoing.clear();
         self.bytes.clear();
     }
 
-    /// Sends a batch that begins at one of the datagrams; how many the system took.
-    fn send_batch(&mut self, at: usize) -> usize {
-        let mut parts: [MaybeUninit<libc::iovec>; BATCH] = [MaybeUninit::uninit(); BATCH];
-        let mut heads: [MaybeUninit<libc::mmsghdr>; BATCH] = [MaybeUninit::uninit(); BATCH];
-        let mut many = 0;
-        for outgoing in self.outgoing[at..].iter().take(BATCH) {
-            let found = self
-                .addresses
-                .iter()
-                .find(|(place, _)| *place == outgoing.place);
-            let Some((_, address)) = found else {
+    /// How many datagrams from one on go out as one message: those to the same place of the same length, of which the last may be shorter.
+    fn run_at(&self, at: usize) -> usize {
+        let first = self.outgoing[at];
+        let length = first.to - first.from;
+        if length == 0 {
+            return 1;
+        }
+        let most = (MOST_SEGMENTED / length).clamp(1, self.segments);
+        let mut many = 1;
+        for next in self.outgoing[at + 1..].iter().take(most - 1) {
+            let own = next.to - next.from;
+            if next.place != first.place || own > length || own == 0 {
                 break;
-            };
+            }
+            many += 1;
+            if own < length {
+                break;
+            }
+        }
+        many
+    }
+
+    /// Where the runs of a batch end that begins at one of the datagrams, each of which goes to a known place.
+    fn runs_from(&self, mut at: usize) -> Vec<(usize, usize)> {
+        let mut runs = Vec::with_capacity(BATCH);
+        while at < self.outgoing.len() && runs.len() < BATCH {
+            if self.address_of(self.outgoing[at].place).is_none() {
+                break;
+            }
+            let end = at + self.run_at(at);
+            runs.push((at, end));
+            at = end;
+        }
+        runs
+    }
+
+    fn address_of(&self, place: u8) -> Option<&SockAddr> {
+        let found = self.addresses.iter().find(|(known, _)| *known == place);
+        found.map(|(_, address)| address)
+    }
+
+    /// Sends a batch that begins at one of the datagrams; how many datagrams the system took. It is an error if it took none for a cause.
+    fn send_batch(&mut self, at: usize) -> io::Result<usize> {
+        let runs = self.runs_from(at);
+        let Some((_, end)) = runs.last().copied() else {
+            return Ok(0);
+        };
+        let part_of = |outgoing: &Outgoing| {
             let datagram = &self.bytes[outgoing.from..outgoing.to];
-            let part = parts[many].write(libc::iovec {
+            libc::iovec {
                 iov_base: datagram.as_ptr().cast_mut().cast(),
                 iov_len: datagram.len(),
-            });
+            }
+        };
+        let mut parts: Vec<libc::iovec> = self.outgoing[at..end].iter().map(part_of).collect();
+        let mut controls = [Control::default(); BATCH];
+        let mut heads: [MaybeUninit<libc::mmsghdr>; BATCH] = [MaybeUninit::uninit(); BATCH];
+        let mut rest = parts.as_mut_slice();
+        for (k, (from, to)) in runs.iter().enumerate() {
+            let (own, others) = rest.split_at_mut(to - from);
+            rest = others;
+            let Some(address) = self.address_of(self.outgoing[*from].place) else {
+                break;
+            };
+            let length = own[0].iov_len as u16;
             let name = address.as_ptr().cast_mut().cast();
-            heads[many].write(head(name, address.len(), part));
-            many += 1;
+            let mut head = head(name, address.len(), &mut own[0]);
+            head.msg_hdr.msg_iovlen = own.len() as _;
+            if own.len() > 1 {
+                controls[k].cut(&mut head.msg_hdr, length);
+            }
+            heads[k].write(head);
         }
-        if many == 0 {
-            return 0;
-        }
-        // SAFETY: the first `many` headers are there. Each points to an address and to bytes that outlive the call, which only reads them.
+        // SAFETY: as many headers as runs are there. Each points to an address, to parts whose bytes outlive the call, and to a control of its
+        // own if it has several parts. The call only reads them.
         let sent = unsafe {
             libc::sendmmsg(
                 self.descriptor(),
                 heads.as_mut_ptr().cast(),
-                many as libc::c_uint,
+                runs.len() as libc::c_uint,
                 libc::MSG_DONTWAIT,
             )
         };
-        usize::try_from(sent).unwrap_or(0)
+        let sent = usize::try_from(sent).map_err(|_| io::Error::last_os_error())?;
+        Ok(runs[..sent].iter().map(|(from, to)| to - from).sum())
+    }
+}
+
+/// Whether the system refused a message of several datagrams since it, or the way to the place, cuts none.
+fn cuts_nothing(error: &io::Error) -> bool {
+    let causes = [libc::EINVAL, libc::EIO, libc::EMSGSIZE, libc::EOPNOTSUPP];
+    error.raw_os_error().is_some_and(|it| causes.contains(&it))
+}
+
+/// Has the system cut a message: the room of one control message, aligned as the system has it.
+#[derive(Clone, Copy, Default)]
+#[repr(C, align(8))]
+struct Control([u8; 32]);
+
+impl Control {
+    /// The message of this header becomes datagrams of this length, of which the last may be shorter.
+    fn cut(&mut self, header: &mut libc::msghdr, length: u16) {
+        header.msg_control = self.0.as_mut_ptr().cast();
+        // SAFETY: the two calls only compute lengths. That of a control message of two bytes is at most the room's 32.
+        let (room, own) = unsafe { (libc::CMSG_SPACE(2), libc::CMSG_LEN(2)) };
+        header.msg_controllen = room as _;
+        // SAFETY: the header has room for one control message, so the first one and its two bytes are in it.
+        unsafe {
+            let first = libc::CMSG_FIRSTHDR(header);
+            (*first).cmsg_level = libc::SOL_UDP;
+            (*first).cmsg_type = libc::UDP_SEGMENT;
+            (*first).cmsg_len = own as _;
+            libc::CMSG_DATA(first).cast::<u16>().write_unaligned(length);
+        }
     }
 }
 
@@ -328,16 +419,73 @@ mod tests {
         assert_eq!(asked, LEAST_BATCH);
     }
 
+    fn bound(place: u8, addresses: &mut Addresses) -> SocketAddr {
+        let socket = std::net::UdpSocket::bind("127.0.0.1:0").unwrap();
+        let address = socket.local_addr().unwrap();
+        drop(socket);
+        addresses.add(place, address).unwrap();
+        address
+    }
+
+    /// All that has come, with its place.
+    fn all_of(udp: &mut Udp) -> Vec<(u8, Vec<u8>)> {
+        let mut read = Vec::new();
+        while udp
+            .receive(|place, bytes| read.push((place, bytes.to_vec())))
+            .unwrap()
+            .has_more
+        {}
+        read
+    }
+
+    /// Lengths of datagrams, in runs of every kind: equal ones, a shorter last one, longer ones after shorter ones, empty ones.
+    const LENGTHS: [usize; 12] = [1200, 1200, 1200, 7, 7, 900, 0, 0, 1200, 1, 1, 1];
+
+    #[test]
+    fn runs_of_one_length_come_as_they_were() {
+        for segments in [MOST_SEGMENTS, 3, 1] {
+            let mut addresses = Addresses::new();
+            let own = [0, 1, 2].map(|place| bound(place, &mut addresses));
+            let [mut from, mut one, mut other] =
+                own.map(|own| Udp::bind(own, &addresses, 1232).unwrap());
+            from.segments = segments;
+            let many = LENGTHS.iter().cycle().take(120).enumerate();
+            let all: Vec<Vec<u8>> = many.map(|(k, length)| vec![k as u8; *length]).collect();
+            for (k, datagram) in all.iter().enumerate() {
+                // one of five goes to one place alone
+                let places: &[u8] = if k % 5 == 0 { &[2] } else { &[1, 2] };
+                from.push(datagram, places.iter().copied());
+            }
+            from.flush();
+            assert_eq!((from.unsent, from.segments), (0, segments));
+            let wanted: Vec<_> = all.iter().map(|bytes| (0, bytes.clone())).collect();
+            assert_eq!(all_of(&mut other), wanted);
+            let some = wanted.into_iter().enumerate().filter(|(k, _)| k % 5 != 0);
+            let some: Vec<_> = some.map(|(_, it)| it).collect();
+            assert_eq!(all_of(&mut one), some);
+        }
+    }
+
+    #[test]
+    fn a_system_that_refuses_to_cut_is_given_single_datagrams() {
+        let mut addresses = Addresses::new();
+        let own = [0, 1].map(|place| bound(place, &mut addresses));
+        let [mut from, mut to] = own.map(|own| Udp::bind(own, &addresses, 100).unwrap());
+        // more than any system cuts
+        from.segments = 10_000;
+        for k in 0..400u16 {
+            from.push(&k.to_be_bytes(), std::iter::once(1));
+        }
+        from.push(&[9; 5], [7, 7].into_iter());
+        from.flush();
+        assert_eq!((from.segments, from.unsent), (1, 2), "7 has no address");
+        let wanted: Vec<_> = (0..400u16).map(|k| (0, k.to_be_bytes().to_vec())).collect();
+        assert_eq!(all_of(&mut to), wanted);
+    }
+
     #[test]
     fn all_that_was_sent_is_read_in_some_turns() {
         let mut addresses = Addresses::new();
-        let bound = |place: u8, addresses: &mut Addresses| {
-            let socket = std::net::UdpSocket::bind("127.0.0.1:0").unwrap();
-            let address = socket.local_addr().unwrap();
-            drop(socket);
-            addresses.add(place, address).unwrap();
-            address
-        };
         let first = bound(0, &mut addresses);
         let second = bound(1, &mut addresses);
         let mut from = Udp::bind(first, &addresses, 100).unwrap();

@@ -6,6 +6,7 @@
 //! The files of a group's first list are `life` and `voter`, those of the list of generation 2 are `life.2` and `voter.2`. A folder of an
 //! earlier version of this program has the first two alone. A life's file of a later list says which list that is, too; it is written after
 //! the voter's file, and a list was begun if it is there. The files of an ended list are removed once the place doesn't serve it any more.
+//! What a process left that was killed amid a write is removed when the place's next life begins.
 
 use crate::later::LaterList;
 use crate::life::{file_of, generation_of, line_of, Begun, LIFE};
@@ -21,6 +22,8 @@ use thiserror::Error;
 
 const LOCK: &str = "lock";
 const VOTER: &str = "voter";
+/// What the name of a file ends with that is being written.
+const NEW: &str = ".new";
 /// How many bytes of a file are read: more than each of them has.
 const MOST_BYTES: u64 = 4096;
 
@@ -90,7 +93,7 @@ fn sync_folder(folder: &Path) -> io::Result<()> {
 
 /// Writes a file beside the old one, syncs it, renames it, and syncs the folder. Only then is it there.
 fn replace(folder: &Path, name: &str, bytes: &[u8]) -> io::Result<()> {
-    let new = folder.join(format!("{name}.new"));
+    let new = folder.join(format!("{name}{NEW}"));
     let mut options = OpenOptions::new();
     options.write(true).create(true).truncate(true).mode(0o600);
     let mut file = options.open(&new)?;
@@ -119,23 +122,40 @@ pub(crate) struct State {
     /// The lists that were begun and not closed, one at least.
     lists: BTreeMap<u32, Begun>,
     /// It holds the lock, which goes with the process however that ends.
-    _lock: File,
+    lock: File,
+}
+
+/// The names of the files in a folder; none if it isn't there.
+fn names_in(folder: &Path) -> Result<Vec<String>, StateError> {
+    let entries = match fs::read_dir(folder) {
+        Ok(entries) => entries,
+        Err(error) if error.kind() == ErrorKind::NotFound => return Ok(Vec::new()),
+        Err(error) => return Err(cannot(folder)(error)),
+    };
+    let mut found = Vec::new();
+    for entry in entries {
+        let name = entry.map_err(cannot(folder))?.file_name();
+        found.extend(name.into_string().ok());
+    }
+    Ok(found)
 }
 
 /// The lists whose lives' files are in a folder.
 fn generations_in(folder: &Path) -> Result<Vec<u32>, StateError> {
-    let mut found = Vec::new();
-    let entries = match fs::read_dir(folder) {
-        Ok(entries) => entries,
-        Err(error) if error.kind() == ErrorKind::NotFound => return Ok(found),
-        Err(error) => return Err(cannot(folder)(error)),
-    };
-    for entry in entries {
-        let name = entry.map_err(cannot(folder))?.file_name();
-        found.extend(name.to_str().and_then(generation_of));
-    }
+    let names = names_in(folder)?;
+    let lives = names.iter().filter_map(|name| generation_of(LIFE, name));
+    let mut found: Vec<u32> = lives.collect();
     found.sort_unstable();
     Ok(found)
+}
+
+impl Drop for State {
+    /// Lets another process of the place run. A child that was begun meanwhile may have the descriptor for a moment still, so it isn't enough to
+    /// close it.
+    fn drop(&mut self) {
+        // SAFETY: the descriptor is open as long as the file is kept, and the call takes no pointers.
+        unsafe { libc::flock(self.lock.as_raw_fd(), libc::LOCK_UN) };
+    }
 }
 
 impl State {
@@ -201,7 +221,7 @@ impl State {
             folder: folder.to_path_buf(),
             place,
             lists,
-            _lock: lock,
+            lock,
         })
     }
 
@@ -252,6 +272,21 @@ impl State {
             self.close(earlier)?;
             self.lists.remove(&earlier);
         }
+        self.sweep(generation)
+    }
+
+    /// Removes what an earlier process left that was killed amid a write: files that weren't whole, and voters' files of lists in which no life
+    /// began. A process begins in this list.
+    fn sweep(&self, generation: u32) -> Result<(), StateError> {
+        for name in names_in(&self.folder)? {
+            let whole = name.strip_suffix(NEW).unwrap_or(&name);
+            let votes_in = generation_of(VOTER, whole);
+            let is_own = votes_in.or(generation_of(LIFE, whole)).is_some();
+            let is_of_another = votes_in.is_some_and(|of| of != generation);
+            if is_of_another || is_own && whole != name {
+                self.remove_file(&name)?;
+            }
+        }
         Ok(())
     }
 
@@ -280,7 +315,11 @@ impl State {
     }
 
     fn remove(&self, kind: &str, generation: u32) -> Result<(), StateError> {
-        let path = self.folder.join(file_of(kind, generation));
+        self.remove_file(&file_of(kind, generation))
+    }
+
+    fn remove_file(&self, name: &str) -> Result<(), StateError> {
+        let path = self.folder.join(name);
         match fs::remove_file(&path) {
             Ok(()) => sync_folder(&self.folder).map_err(cannot(&self.folder)),
             Err(error) if error.kind() == ErrorKind::NotFound => Ok(()),
@@ -319,187 +358,4 @@ pub fn next_life(folder: &Path, place: u8) -> Result<(Name, Option<LaterList>), 
 }
 
 #[cfg(test)]
-mod tests {
-    use super::*;
-    use crate::later::list;
-
-    struct Folder(PathBuf);
-
-    impl Folder {
-        fn new(test: &str) -> Folder {
-            let path = std::env::temp_dir().join(format!("state-{test}-{}", std::process::id()));
-            let _removed = fs::remove_dir_all(&path);
-            Folder(path)
-        }
-    }
-
-    impl Drop for Folder {
-        fn drop(&mut self) {
-            let _removed = fs::remove_dir_all(&self.0);
-        }
-    }
-
-    fn name(text: &str) -> Name {
-        text.parse().unwrap()
-    }
-
-    #[test]
-    fn a_life_is_begun_once_and_the_next_one_is_known() {
-        let folder = Folder::new("life");
-        assert!(matches!(
-            State::take(&folder.0, 2),
-            Err(StateError::None(_))
-        ));
-        State::make(&folder.0, name("2"), Some([7; 16])).unwrap();
-        assert!(matches!(
-            State::make(&folder.0, name("2"), None),
-            Err(StateError::There(_))
-        ));
-        assert_eq!(next_life(&folder.0, 2).unwrap(), (name("2"), None));
-        let mut state = State::take(&folder.0, 2).unwrap();
-        assert_eq!(state.voter(0).unwrap().unwrap(), new_file([7; 16], 2));
-        state.begin(name("2"), None).unwrap();
-        let again = state.begin(name("2"), None).unwrap_err();
-        assert!(again.to_string().contains("the next one is 2/2"), "{again}");
-        drop(state);
-        let mut later = State::take(&folder.0, 2).unwrap();
-        assert!(later.begin(name("2"), None).is_err());
-        later.begin(name("2/16"), None).unwrap();
-        assert!(later.begin(name("2/16"), None).is_err());
-        drop(later);
-        assert!(next_life(&folder.0, 2).is_err());
-    }
-
-    #[test]
-    fn two_processes_of_a_place_do_not_run() {
-        let folder = Folder::new("lock");
-        State::make(&folder.0, name("1"), None).unwrap();
-        let one = State::take(&folder.0, 1).unwrap();
-        let other = State::take(&folder.0, 1);
-        assert!(matches!(other, Err(StateError::Locked(_))));
-        drop(one);
-        assert!(State::take(&folder.0, 1).is_ok());
-        assert!(matches!(
-            State::take(&folder.0, 2),
-            Err(StateError::OtherPlace { place: 1, .. })
-        ));
-    }
-
-    #[test]
-    fn a_place_that_comes_back_without_its_disk_does_not_vote() {
-        let folder = Folder::new("disk");
-        State::make(&folder.0, name("0/3"), Some([7; 16])).unwrap();
-        let mut state = State::take(&folder.0, 0).unwrap();
-        assert_eq!(state.voter(0).unwrap(), None);
-        assert!(state.begin(name("0/2"), None).is_err());
-        state.begin(name("0/3"), None).unwrap();
-    }
-
-    #[test]
-    fn a_spoilt_file_of_lives_is_refused() {
-        let folder = Folder::new("spoilt");
-        State::make(&folder.0, name("0"), None).unwrap();
-        for text in [
-            "",
-            "place 0 life 17\n",
-            "place 0 life 1",
-            "place 00 life 1\n",
-            "\0\0",
-        ] {
-            fs::write(folder.0.join(LIFE), text).unwrap();
-            let taken = State::take(&folder.0, 0);
-            assert!(matches!(taken, Err(StateError::Spoilt(_))), "{text:?}");
-        }
-    }
-
-    #[test]
-    fn a_voters_file_is_replaced_as_a_whole() {
-        let folder = Folder::new("voter");
-        State::make(&folder.0, name("0"), Some([1; 16])).unwrap();
-        let state = State::take(&folder.0, 0).unwrap();
-        state.write_voter(0, b"other").unwrap();
-        assert_eq!(state.voter(0).unwrap().unwrap(), b"other");
-        assert!(!folder.0.join("voter.new").exists());
-    }
-
-    #[test]
-    fn the_next_list_begins_beside_the_one_that_ends() {
-        let folder = Folder::new("lists");
-        State::make(&folder.0, name("1"), Some([1; 16])).unwrap();
-        let mut state = State::take(&folder.0, 1).unwrap();
-        state.begin(name("1"), None).unwrap();
-        state.succeed(&list(1), Some(b"voter of 1")).unwrap();
-        assert_eq!(state.voter(0).unwrap().unwrap(), new_file([1; 16], 1));
-        assert_eq!(state.voter(1).unwrap().unwrap(), b"voter of 1");
-        state.write_voter(1, b"more of 1").unwrap();
-        drop(state);
-        // a place that comes back begins in the latest one
-        let state = State::take(&folder.0, 1).unwrap();
-        assert_eq!((state.generation(), state.list()), (1, Some(list(1))));
-        assert_eq!(state.voter(1).unwrap().unwrap(), b"more of 1");
-        drop(state);
-        let next = next_life(&folder.0, 1).unwrap();
-        assert_eq!(next, (name("1/2"), Some(list(1))));
-        let mut state = State::take(&folder.0, 1).unwrap();
-        let old = state.begin(name("1/2"), None).unwrap_err();
-        assert!(matches!(old, StateError::Later { latest: 1, .. }), "{old}");
-        let again = state.begin(name("1"), Some(&list(1))).unwrap_err();
-        assert!(matches!(again, StateError::Begun { .. }), "{again}");
-        state.begin(name("1/2"), Some(&list(1))).unwrap();
-        assert_eq!(state.voter(1).unwrap().unwrap(), b"more of 1");
-        assert_eq!(state.voter(0).unwrap(), None);
-        // its peers know a later one, in which it doesn't vote
-        state.write_voter(3, b"of no list").unwrap();
-        state.begin(name("1/4"), Some(&list(3))).unwrap();
-        assert_eq!(state.voter(3).unwrap(), None);
-        drop(state);
-        let names = fs::read_dir(&folder.0).unwrap();
-        let mut names: Vec<_> = names.map(|entry| entry.unwrap().file_name()).collect();
-        names.sort();
-        assert_eq!(names, ["life.3", "lock"]);
-        let next = next_life(&folder.0, 1).unwrap();
-        assert_eq!(next, (name("1/5"), Some(list(3))));
-        let made = State::make(&folder.0, name("1"), None);
-        assert!(matches!(made, Err(StateError::There(_))));
-    }
-
-    #[test]
-    fn a_list_that_was_not_written_whole_did_not_begin() {
-        let folder = Folder::new("cut");
-        State::make(&folder.0, name("1"), None).unwrap();
-        let mut state = State::take(&folder.0, 1).unwrap();
-        state.begin(name("1"), None).unwrap();
-        // the machine stopped after the voter's file
-        state.write_voter(1, b"voter").unwrap();
-        fs::write(folder.0.join("life.1.new"), "place 1").unwrap();
-        drop(state);
-        let next = next_life(&folder.0, 1).unwrap();
-        assert_eq!(next, (name("1/2"), None));
-    }
-
-    #[test]
-    fn each_byte_of_a_later_lists_file_counts() {
-        let folder = Folder::new("bytes");
-        State::make(&folder.0, name("1"), None).unwrap();
-        let state = State::take(&folder.0, 1).unwrap();
-        state.succeed(&list(2), None).unwrap();
-        drop(state);
-        let path = folder.0.join("life.2");
-        let bytes = fs::read(&path).unwrap();
-        for at in 0..bytes.len() {
-            let mut other = bytes.clone();
-            other[at] ^= 1;
-            fs::write(&path, &other).unwrap();
-            let taken = State::take(&folder.0, 1);
-            assert!(matches!(taken, Err(StateError::Spoilt(_))), "byte {at}");
-            fs::write(&path, &bytes[..at]).unwrap();
-            let taken = State::take(&folder.0, 1);
-            assert!(matches!(taken, Err(StateError::Spoilt(_))), "cut at {at}");
-        }
-        // another list's file by another name
-        fs::write(folder.0.join("life.3"), &bytes).unwrap();
-        fs::write(&path, &bytes).unwrap();
-        let taken = State::take(&folder.0, 1);
-        assert!(matches!(taken, Err(StateError::Spoilt(_))));
-    }
-}
+mod tests;

@@ -17,6 +17,8 @@ pub enum Plant {
     CarriesGiveUps,
     UsesOldFile,
     EndsWhileRefused,
+    EndsAtOneElsewhere,
+    HeedsEarlierList,
 }
 
 /// What is to be done for what says who has stopped. The rest is the member's [`Output`](muoswyld_member::Output)s.
@@ -97,6 +99,11 @@ pub enum Deed {
 pub enum Ending {
     /// It was given up: the group goes on without it.
     GivenUp,
+    /// Too few voters of its list serve it still: they began in later lists. So nobody can act in it any more, and what is held never goes out.
+    /// The place comes back in the latest list as its next life.
+    Unserved,
+    /// It asked to join a list that has ended. Its place can come back in the latest one.
+    Superseded,
     /// The next list didn't begin here: that its life began couldn't be written, there was no memory for it, or its control names no voters
     /// though the policy has some. The place comes back in it as its next life.
     NotBegun,

@@ -1,4 +1,4 @@
-//! The list that follows another one: it begins, the older ones close, and what holds in all of them is passed on.
+//! The list that follows another one: it begins, and what holds in all of them is passed on.
 
 use crate::deed::{Deed, Ending, Plant};
 use crate::guarded::{core_name, name_of, set_of, Guarded};
@@ -7,9 +7,6 @@ use crate::lane::{at, Lane};
 use crate::waiting::Waiting;
 use muoswyld_failures::{self as failures, new_file, Failures, Message};
 use muoswyld_member::{HandleError, Input, Name, Successor, Time};
-
-/// Of how many lists that aren't served any more the ids are kept.
-const MOST_CLOSED: usize = 64;
 
 /// A list that is about to begin: that its life began is being written.
 #[derive(Debug)]
@@ -127,31 +124,6 @@ impl Guarded {
         }
     }
 
-    /// Ended lists that nobody wants anything of any more, or in which this place was given up, aren't served from now on.
-    pub(crate) fn close_over(&mut self) {
-        while let Some(lane) = self.lanes.first() {
-            let generation = lane.generation;
-            let is_old = self.lanes.len() > 1;
-            if !is_old || !(lane.failures.is_ended() || self.lists.is_over(generation)) {
-                return;
-            }
-            let id = lane.failures.settings().id;
-            let lane = self.lanes.remove(0);
-            self.lists.close(generation);
-            if self.has(Plant::LooksByOldLane) {
-                // what came of the next list isn't lost with that defect
-                let rest = lane.held.into_iter();
-                let rest = rest.filter(|held| held.generation > generation);
-                self.lanes[0].held.extend(rest);
-            }
-            if self.closed.len() == MOST_CLOSED {
-                self.closed.pop_front();
-            }
-            self.closed.push_back(id);
-            self.deeds.push(Deed::Closed { generation });
-        }
-    }
-
     // ---- what holds in several lists
 
     /// Takes a heartbeat or an echo: it is of one list, which it names.
@@ -169,43 +141,17 @@ impl Guarded {
                 self.heed(now, index, failures::Input::Datagram(payload));
             }
         }
-        if found.is_none() && self.answers_closed(payload) {
+        if found.is_none() && self.answers_other_list(payload) {
             return;
         }
         let index = found.unwrap_or(self.latest());
         if found.is_some() {
             self.note_sign(now, index, payload);
         }
-        let is_closed = payload.first() == Some(&0x12);
-        if is_closed && index == self.latest() && self.follows.is_some() {
-            // it has come to the list's end
+        if self.hears_of_end(index, payload) {
             return;
         }
         self.heed(now, index, failures::Input::Datagram(payload));
-    }
-
-    /// Whether a message is of a list that isn't served any more. Whoever still speaks in it is told so: if it hasn't come to the list's end
-    /// it was given up in the next one, and nobody echoes it any more.
-    fn answers_closed(&mut self, payload: &[u8]) -> bool {
-        let Some(id) = self
-            .closed
-            .iter()
-            .find(|id| payload.get(1..17) == Some(id.as_slice()))
-        else {
-            return false;
-        };
-        let Some(Message::Heartbeat(heartbeat)) = Message::read(payload) else {
-            return true;
-        };
-        let to = heartbeat.from.name;
-        let closed = Message::Closed { id: *id, to };
-        let generation = self.lists.generation();
-        self.deeds.push(Deed::Send {
-            generation,
-            to: 1 << to.place(),
-            payload: closed.to_bytes(),
-        });
-        true
     }
 
     /// A heartbeat in an ended list says that its process runs: in the next list that counts against its silence, and as nothing else. It

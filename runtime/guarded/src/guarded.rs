@@ -112,7 +112,7 @@ impl Guarded {
     /// Takes a datagram's payload. The time was read after it was received.
     pub fn hear(&mut self, now: Time, payload: &[u8]) {
         if self.policy != Policy::Told {
-            if let Some(0x10..=0x12) = payload.first() {
+            if failures::is_message(payload) {
                 return self.hear_failures(now, payload);
             }
             self.note_ran(payload);
@@ -162,7 +162,12 @@ impl Guarded {
             }
             Input::Reset { .. } if self.follows.is_some() => self.put_for_next(input),
             Input::Succeed(next) => self.succeed(now, next),
-            Input::Send { .. } | Input::Reset { .. } => self.give(now, input),
+            Input::Send { .. } => self.give(now, input).map_err(|refusal| match refusal {
+                // the list has ended in this turn: there is room once the next one has begun
+                HandleError::Succeeded { message } => HandleError::Full { message, room: 0 },
+                other => other,
+            }),
+            Input::Reset { .. } => self.give(now, input),
         }
     }
 

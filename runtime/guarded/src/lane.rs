@@ -1,7 +1,7 @@
 //! What guards one list: its failures, its batch that waits for a look, and the inputs that wait until its member may be given them.
 
 use crate::waiting::{Late, Waiting};
-use muoswyld_failures::{self as failures, Failures};
+use muoswyld_failures::{self as failures, Failures, Places};
 use muoswyld_member::{
     Generations, HandleError, Info, Input, Member, Names, NotReset, Output, Released, Time,
 };
@@ -32,6 +32,8 @@ pub(crate) struct Lane {
     /// How the member stood when a batch went out the last time.
     pub(crate) shown: Option<Info>,
     pub(crate) view: Option<(u32, Names)>,
+    /// The voters' places that never serve this list any more, since they began in a later one.
+    pub(crate) elsewhere: Places,
     /// As a defect that a test plants: an input is read after the look.
     pub(crate) reads_after_look: bool,
 }
@@ -55,6 +57,7 @@ impl Lane {
             waiting: Waiting::default(),
             shown,
             view: None,
+            elsewhere: 0,
             reads_after_look: false,
         }
     }
@@ -77,9 +80,15 @@ impl Lane {
         }
     }
 
-    /// Whether the member may be given something now.
+    /// Whether the member may be given something now. What waited is given first: where nothing is looked at, that waited for the list to begin.
     pub(crate) fn open(&mut self, lists: &mut Generations, now: Time) -> bool {
-        !self.is_gated || self.is_begun || self.begin(lists, now)
+        if self.is_gated {
+            return self.is_begun || self.begin(lists, now);
+        }
+        if !self.waiting.is_empty() {
+            self.catch_up(lists, now);
+        }
+        true
     }
 
     /// Whether the member may be given something now, asked anew. What waited is given first.
@@ -114,7 +123,8 @@ impl Lane {
 
     /// Time passed: the member is told so, if it wants that and may be given something.
     pub(crate) fn tick(&mut self, lists: &mut Generations, now: Time) {
-        if self.may_have() && lists.wake_in(self.generation) <= now {
+        let is_due = !self.waiting.is_empty() || lists.wake_in(self.generation) <= now;
+        if self.may_have() && is_due {
             // only messages can be refused
             let _taken = self.handle(lists, now, Input::Time);
         }

@@ -9,6 +9,7 @@
 
 #![warn(missing_docs)]
 
+mod closing;
 mod deed;
 mod following;
 mod guarded;

@@ -1,7 +1,7 @@
 //! Guarded members, turn by turn.
 
 use muoswyld_failures::{
-    new_file, places_of, Failures, Policy, Settings as Core, Time as CoreTime,
+    new_file, places_of, Failures, Message, Policy, Settings as Core, Time as CoreTime,
 };
 use muoswyld_guarded::{next_id, Deed, Ending, Guarded};
 use muoswyld_member::{
@@ -12,17 +12,26 @@ const ID: [u8; 16] = [4; 16];
 
 fn guarded(place: u8, policy: Policy) -> Guarded {
     let name = Name::first(place).expect("a name");
+    begun(name, policy, None)
+}
+
+/// One that begins in the first list, or in the next one with this group's id.
+fn begun(name: Name, policy: Policy, next: Option<u64>) -> Guarded {
     let founding = Founding {
         founders: (0..3).filter_map(Name::first).collect(),
         resilience: 1,
         window: 64,
         pb_up_to: 1024,
     };
-    let settings = Settings::new(name, founding, u64::from(place) + 1);
+    let process = u64::from(name.byte()) + 1;
+    let mut settings = Settings::new(name, founding, process);
+    settings.group = next;
+    settings.generation = u32::from(next.is_some());
     let lists = Generations::new(settings.clone(), Time(0)).expect("a member");
-    let own = muoswyld_failures::Name::first(place);
-    let core = Core::new(ID, own, settings.process, places_of(0..3), policy);
-    let file = new_file(ID, place);
+    let own = muoswyld_failures::Name::of_byte(name.byte());
+    let id = next.map_or(ID, |group| next_id(ID, group));
+    let core = Core::new(id, own, process, places_of(0..3), policy);
+    let file = new_file(id, name.place());
     let failures = Failures::new(core, Some(&file), CoreTime(0)).expect("settings");
     Guarded::new(lists, failures, &settings)
 }
@@ -242,6 +251,45 @@ fn the_next_list_begins_once_that_is_on_disk_with_voters_of_its_own() {
 }
 
 #[test]
+fn what_waits_for_the_next_list_is_given_where_nothing_is_looked_at() {
+    let mut all = three(Policy::Told);
+    let succeed = Input::Succeed(next_list(None));
+    assert_eq!(all[0].handle(Time(400_000), succeed), Ok(()));
+    let begun = begins(&mut all, (401, 460));
+    assert!(begun.iter().all(|deeds| deeds.len() == 1));
+    // two begin it before the third one, which is asked to reset meanwhile
+    for one in &mut all[..2] {
+        one.begun(Time(460_000), 1, true);
+    }
+    begins(&mut all, (461, 480));
+    let reset = Input::Reset {
+        ticket: 7,
+        least: Some(1),
+        resilience: None,
+    };
+    assert_eq!(all[2].handle(Time(480_000), reset), Ok(()));
+    all[2].begun(Time(480_000), 1, true);
+    let outs = run(&mut all, (481, 700), &[]);
+    let is_done = |output: &Output| {
+        matches!(
+            output,
+            Output::ResetDone {
+                ticket: 7,
+                result: Ok(_)
+            }
+        )
+    };
+    assert!(outs[2].iter().any(is_done));
+    for one in &all {
+        assert!(
+            one.wake() > Time(699_000),
+            "nothing waits: {:?}",
+            one.wake()
+        );
+    }
+}
+
+#[test]
 fn a_life_whose_next_beginning_is_not_written_ends() {
     let mut all = three(Policy::Echo);
     let now = Time(400_000);
@@ -317,4 +365,103 @@ fn a_word_holds_in_both_lists_and_a_silence_is_found_in_each() {
         .collect();
     // it is told in the latest one, and passed on
     assert_eq!(stopped, [1, 0]);
+}
+
+/// The messages that one sends in a turn to a place.
+fn sent_to(one: &mut Guarded, now: Time, place: u8) -> Vec<Vec<u8>> {
+    let deeds = deeds_of(one, now).into_iter();
+    let to_it = |deed| match deed {
+        Deed::Send { to, payload, .. } if to >> place & 1 == 1 => Some(payload),
+        _ => None,
+    };
+    deeds.filter_map(to_it).collect()
+}
+
+/// What one says that hears another one's heartbeats, but for its own heartbeats.
+fn answers(one: &mut Guarded, other: &mut Guarded, now: u64, place: u8) -> Vec<Message> {
+    for payload in sent_to(other, Time(now), one.info().name.place()) {
+        one.hear(Time(now), &payload);
+    }
+    let said = sent_to(one, Time(now), place);
+    let said = said.iter().filter_map(|payload| Message::read(payload));
+    said.filter(|message| !matches!(message, Message::Heartbeat(_)))
+        .collect()
+}
+
+/// Why one ends that hears a message.
+fn end_by(one: &mut Guarded, now: u64, message: &Message) -> Option<Ending> {
+    one.hear(Time(now), &message.to_bytes());
+    let deeds = deeds_of(one, Time(now)).into_iter();
+    let mut ends = deeds.filter_map(|deed| match deed {
+        Deed::Ended { why, .. } => Some(why),
+        _ => None,
+    });
+    ends.next()
+}
+
+/// What two say that began in the next list, and never served the first one, to one that speaks there.
+fn said_elsewhere(behind: &mut Guarded) -> Vec<Message> {
+    let place = behind.info().name.place();
+    let mut all = Vec::new();
+    for back in 0..2 {
+        let name = Name::new(back, 2).expect("a name");
+        let mut back = begun(name, Policy::Echo, Some(7));
+        let now = 1_000_000 + u64::from(back.info().name.place()) * 200_000;
+        // it says so to each heartbeat
+        all.extend(answers(&mut back, behind, now, place).first().cloned());
+    }
+    all
+}
+
+#[test]
+fn who_is_behind_ends_once_a_majority_of_its_voters_is_elsewhere() {
+    let mut all = three(Policy::Echo);
+    let said = said_elsewhere(&mut all[2]);
+    let [one, other] = said.as_slice() else {
+        panic!("{said:?}");
+    };
+    let now = 1_500_000;
+    // one voter, however often it says so, takes away no majority
+    assert_eq!(end_by(&mut all[2], now, one), None);
+    assert_eq!(end_by(&mut all[2], now, one), None);
+    // it isn't said to another one
+    assert_eq!(end_by(&mut all[1], now, one), None);
+    assert_eq!(end_by(&mut all[1], now, other), None);
+    assert_eq!(end_by(&mut all[2], now, other), Some(Ending::Unserved));
+}
+
+#[test]
+fn who_asks_to_join_a_list_that_nobody_serves_ends_as_superseded() {
+    let asker = || begun(Name::first(3).expect("a name"), Policy::Echo, None);
+    let mut one = asker();
+    let said = said_elsewhere(&mut one);
+    let ends: Vec<_> = said
+        .iter()
+        .map(|it| end_by(&mut one, 1_500_000, it))
+        .collect();
+    assert_eq!(ends, [None, Some(Ending::Superseded)]);
+    let to = muoswyld_failures::Name::first(3);
+    let closed = Message::Closed { id: ID, to };
+    let end = end_by(&mut asker(), 1_000, &closed);
+    assert_eq!(end, Some(Ending::Superseded));
+}
+
+#[test]
+fn who_is_behind_says_nothing_of_a_later_list() {
+    let mut all = three(Policy::Echo);
+    let mut later = begun(Name::first(0).expect("a name"), Policy::Echo, Some(7));
+    assert_eq!(answers(&mut all[2], &mut later, 1_000_000, 0), []);
+    // and what such a one says counts for nothing
+    for place in 0..2 {
+        let id = next_id(ID, 7);
+        let to = muoswyld_failures::Name::first(0);
+        let generation = 1;
+        let behind = Message::Elsewhere {
+            id,
+            to,
+            place,
+            generation,
+        };
+        assert_eq!(end_by(&mut later, 1_100_000, &behind), None);
+    }
 }

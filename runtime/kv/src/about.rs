@@ -86,7 +86,15 @@ impl About {
     /// The group: its members, the view, and how far this member is behind.
     fn replication(&self) -> String {
         let standing = &self.member.standing;
-        let applied = self.replica.at.map_or(0, |at| at.number);
+        let (of, applied) = self
+            .replica
+            .at
+            .map_or((0, 0), |at| (at.generation, at.number));
+        // of a list in which nothing is applied yet all of its entries are left
+        let behind = match of == self.member.generation {
+            true => standing.top.saturating_sub(applied),
+            false => standing.top,
+        };
         let mut text = String::new();
         let mut line = |key: &str, value: &dyn std::fmt::Display| {
             // writing to a string can't fail
@@ -95,19 +103,22 @@ impl About {
         line("role", &"master");
         line("connected_slaves", &0);
         line("muoswyld_name", &self.member.name);
+        line("muoswyld_generation", &self.member.generation);
         line("muoswyld_view", &standing.view);
         line("muoswyld_members", &standing.members);
         line("muoswyld_resilience", &standing.resilience);
         line("muoswyld_holders", &self.replica.holders);
         line("muoswyld_ready", &u8::from(self.replica.is_ready));
+        line("muoswyld_applied_generation", &of);
         line("muoswyld_applied", &applied);
         line("muoswyld_top", &standing.top);
-        line("muoswyld_lag", &standing.top.saturating_sub(applied));
+        line("muoswyld_lag", &behind);
         line("muoswyld_silent", &self.member.silent);
         let reads = if self.are_ordered { "ordered" } else { "local" };
         line("muoswyld_reads", &reads);
-        if let Some((number, digest)) = self.replica.checked {
-            line("muoswyld_checked", &number);
+        if let Some((at, digest)) = self.replica.checked {
+            line("muoswyld_checked_generation", &at.generation);
+            line("muoswyld_checked", &at.number);
             line("muoswyld_digest", &format_args!("{digest:016x}"));
         }
         text

@@ -22,6 +22,7 @@ fn main() -> ExitCode {
             .with_file()
             .and_then(|run| failing::make_state(&run.member)),
         Verb::Keygen { file } => key::make(&file),
+        Verb::Succeed { at, next } => run::succeed(&at, &next),
     };
     match done {
         Ok(()) => ExitCode::SUCCESS,

@@ -2,7 +2,8 @@
 
 use clap::{Args, Parser, Subcommand, ValueEnum};
 use muoswyldd::exit::{Fault, CONFIG, NO_INPUT};
-use muoswyldd::options;
+use muoswyldd::options::{self, At};
+use muoswyldd::otherwise::Otherwise;
 use serde::Deserialize;
 use std::net::SocketAddr;
 use std::path::{Path, PathBuf};
@@ -27,6 +28,15 @@ pub enum Verb {
     Keygen {
         /// The file to make
         file: PathBuf,
+    },
+    /// Has a store that runs end its group's list, so that another one follows it; what isn't said stays as it is
+    Succeed {
+        /// The store's member
+        #[command(flatten)]
+        at: At,
+        /// What the next list has otherwise
+        #[command(flatten)]
+        next: Otherwise,
     },
 }
 

@@ -9,6 +9,8 @@ use muoswyld_service::{Service, Stop};
 use muoswyldd::control::{self, Command};
 use muoswyldd::exit::{by_end, Fault, CONFIG, SOFTWARE, SYSTEM, UNAVAILABLE};
 use muoswyldd::metrics::{self, Value};
+use muoswyldd::options::At;
+use muoswyldd::otherwise::Otherwise;
 use muoswyldd::run::Process;
 use serde_json::{json, Value as Json};
 use std::net::SocketAddr;
@@ -26,9 +28,6 @@ const LEAVE_WITHIN: Duration = Duration::from_secs(10);
 fn does(command: Command, group: &Group) -> Json {
     match command {
         Command::Send(_) => json!({ "error": "a store sends no messages of others" }),
-        Command::Succeed(_) => {
-            json!({ "error": "a store doesn't go on in another list: the list isn't ended" })
-        }
         other => other.done_by(group),
     }
 }
@@ -47,10 +46,6 @@ pub fn run(words: Run) -> Result<(), Fault> {
     let run = words.with_file()?;
     if run.member.input.is_some() || run.member.output.is_some() {
         let line = "a store has no --input and no --output: clients connect at --listen";
-        return Err(Fault::of(CONFIG, line));
-    }
-    if run.member.succeed_at_lives.is_some() || run.member.succeed_at_numbers.is_some() {
-        let line = "a store doesn't go on in another list: it has no --succeed-at-lives and no --succeed-at-numbers";
         return Err(Fault::of(CONFIG, line));
     }
     let settings = settings_of(&run);
@@ -85,6 +80,13 @@ pub fn run(words: Run) -> Result<(), Fault> {
     process.is_lawful()
 }
 
+/// Has a store that runs end its group's list, and prints the answer.
+pub fn succeed(at: &At, next: &Otherwise) -> Result<(), Fault> {
+    let answer = control::ask(&at.socket, &Command::Succeed(next.list()))?;
+    println!("{answer}");
+    Ok(())
+}
+
 /// How the store's end ends the program.
 fn end(group: &Group, stop: &Stop) -> Result<(), Fault> {
     let ended = match stop {
@@ -96,7 +98,7 @@ fn end(group: &Group, stop: &Stop) -> Result<(), Fault> {
         tracing::error!("{error}");
     }
     let status = match ended {
-        Ended::Lost | Ended::HeldTooMuch { .. } | Ended::ListEnded { .. } => UNAVAILABLE,
+        Ended::Lost | Ended::HeldTooMuch { .. } => UNAVAILABLE,
         _ => SOFTWARE,
     };
     Err(Fault::of(status, ended))
@@ -122,8 +124,13 @@ fn values(counts: &Counts) -> Vec<Value> {
             counts.requests,
         ),
         (
+            "muoswyld_kv_applied_generation",
+            "lists before the one of the last entry that is applied",
+            counts.applied_generation,
+        ),
+        (
             "muoswyld_kv_applied",
-            "number up to which entries are applied",
+            "number up to which entries of that list are applied",
             counts.applied,
         ),
         (

@@ -53,6 +53,8 @@ pub struct Counts {
     pub held: u64,
     /// The number of the last entry that was applied.
     pub applied: u64,
+    /// How many lists came before the one of that entry.
+    pub applied_generation: u64,
 }
 
 /// Counts that another thread looks at.
@@ -355,6 +357,7 @@ impl Server {
             is_ready: status.is_ready,
             held: status.held as u64,
             applied: status.at.map_or(0, |at| u64::from(at.number)),
+            applied_generation: status.at.map_or(0, |at| u64::from(at.generation)),
         };
         *self.counts.lock().unwrap_or_else(PoisonError::into_inner) = counts;
     }
@@ -365,8 +368,9 @@ fn tell(notice: Notice) {
         Notice::Serves { to, chunk } => {
             tracing::info!("{to} is sent the state from chunk {chunk} on");
         }
-        Notice::OtherDiffers { name, number } => {
-            tracing::error!("the state of {name} after entry {number} isn't the one that counts");
+        Notice::OtherDiffers { name, at } => {
+            let (generation, number) = (at.generation, at.number);
+            tracing::error!("the state of {name} after entry {number} of generation {generation} isn't the one that counts");
         }
     }
 }

@@ -3,13 +3,15 @@
 //! | first byte | a body is |
 //! |---|---|
 //! | `P` | messages, each its length (2 bytes) and its bytes: one at least, and nothing behind the last one |
-//! | `S` | a part of a message |
+//! | `R` | the messages in bytes of the sender's stream: where they start (8), how many bytes (4), and their CRC-32 (4) |
+//! | `S` | a part of a message, as an earlier version of this program sends it |
 //! | `C` | control, which no application is given: its kind (1), and what that has. A member that doesn't know a kind of 128 or more ends |
 //!
 //! Any other body, and one that isn't of its form, is a message as it is. So a message goes out that fits into a body, but not with the
 //! head of a packed one: a kilobyte is one body, if it doesn't begin as one of these.
 
 use muoswyld::names::Name;
+use std::ops::Range;
 
 /// The most bytes of a message.
 pub const MOST_MESSAGE: usize = 65_535;
@@ -26,8 +28,15 @@ const LENGTH: usize = 2;
 /// The longest message that can be packed: it fills a body.
 pub(crate) const MOST_PACKED: usize = MOST_BODY - 1 - LENGTH;
 
+/// The bytes of a reference.
+const REFERENCE_SIZE: usize = 1 + 8 + 4 + 4;
+
+/// No stream has an offset above.
+const MOST_OFFSET: u64 = 1 << 62;
+
 const PACKED: u8 = b'P';
 const PART: u8 = b'S';
+pub(crate) const REFERENCE: u8 = b'R';
 pub(crate) const CONTROL: u8 = b'C';
 
 /// A body of packed messages that takes more.
@@ -51,7 +60,7 @@ impl Packing {
     /// Adds a message that fits.
     pub(crate) fn push(&mut self, message: &[u8]) {
         debug_assert!(self.fits(message.len()));
-        self.body.extend((message.len() as u16).to_be_bytes());
+        self.body.extend(head_of(message));
         self.body.extend(message);
     }
 
@@ -60,12 +69,76 @@ impl Packing {
     }
 }
 
+/// The bytes before a message in a packed body or a stream: its length.
+pub(crate) fn head_of(message: &[u8]) -> [u8; LENGTH] {
+    (message.len() as u16).to_be_bytes()
+}
+
+/// How many bytes a message of so many bytes takes in a packed body or a stream.
+pub(crate) const fn size_of(length: usize) -> usize {
+    LENGTH + length
+}
+
+/// Whether messages that take so many bytes in all fit into one packed body.
+pub(crate) const fn fit_into_one(size: usize) -> bool {
+    MOST_BODY > size
+}
+
+/// A body that names bytes of its sender's stream.
+#[derive(Clone, Copy, Debug, PartialEq, Eq)]
+pub(crate) struct Reference {
+    pub(crate) start: u64,
+    pub(crate) length: u32,
+    /// Their CRC-32, as IEEE 802.3 has it.
+    pub(crate) sum: u32,
+}
+
+impl Reference {
+    pub(crate) fn body(&self) -> Vec<u8> {
+        let mut body = Vec::with_capacity(REFERENCE_SIZE);
+        body.push(REFERENCE);
+        body.extend(self.start.to_be_bytes());
+        body.extend(self.length.to_be_bytes());
+        body.extend(self.sum.to_be_bytes());
+        body
+    }
+
+    /// Which bytes of the stream it names.
+    pub(crate) fn range(&self) -> Range<u64> {
+        self.start..self.start + u64::from(self.length)
+    }
+
+    /// What a body names, if it is a reference.
+    pub(crate) fn read(body: &[u8]) -> Option<Reference> {
+        let rest: &[u8; REFERENCE_SIZE - 1] = match body.split_first() {
+            Some((&REFERENCE, rest)) => rest.try_into().ok()?,
+            _ => return None,
+        };
+        let (start, rest) = rest.split_first_chunk()?;
+        let (length, sum) = rest.split_first_chunk()?;
+        let reference = Reference {
+            start: u64::from_be_bytes(*start),
+            length: u32::from_be_bytes(*length),
+            sum: u32::from_be_bytes(sum.try_into().ok()?),
+        };
+        let end = reference.start.checked_add(u64::from(reference.length))?;
+        (reference.length > 0 && end <= MOST_OFFSET).then_some(reference)
+    }
+}
+
+/// The messages in bytes of a stream; None if it isn't whole messages that they are.
+pub(crate) fn messages_in(bytes: &[u8]) -> Option<Unpacking<'_>> {
+    packed_of(bytes)
+}
+
 /// How many parts a message of so many bytes has.
+#[cfg(test)]
 pub(crate) fn part_count(length: usize) -> usize {
     length.div_ceil(SHARE).max(1)
 }
 
 /// A part of a message.
+#[cfg(test)]
 pub(crate) fn part_of(message: &[u8], index: usize) -> Vec<u8> {
     let begin = (index * SHARE).min(message.len());
     let share = &message[begin..(begin + SHARE).min(message.len())];
@@ -86,6 +159,7 @@ pub(crate) enum Body<'a> {
         count: usize,
         share: &'a [u8],
     },
+    Reference(Reference),
     Control(&'a [u8]),
     Plain,
 }
@@ -145,6 +219,7 @@ pub(crate) fn read(body: &[u8]) -> Body<'_> {
             },
             None => Body::Plain,
         },
+        Some((&REFERENCE, _)) => Reference::read(body).map_or(Body::Plain, Body::Reference),
         Some((&CONTROL, rest)) => Body::Control(rest),
         _ => Body::Plain,
     }
@@ -305,6 +380,33 @@ mod tests {
     }
 
     #[test]
+    fn a_reference_is_as_the_page_says() {
+        let reference = Reference {
+            start: 258,
+            length: 3,
+            sum: 0x0102_0304,
+        };
+        let body = b"R\0\0\0\0\0\0\x01\x02\0\0\0\x03\x01\x02\x03\x04";
+        assert_eq!(reference.body(), body);
+        assert_eq!(read(body), Body::Reference(reference));
+        assert_eq!(reference.range(), 258..261);
+        for length in 0..body.len() {
+            assert_eq!(Reference::read(&body[..length]), None);
+        }
+        assert_eq!(read(&[&body[..], b"x"].concat()), Body::Plain);
+        let none = Reference {
+            length: 0,
+            ..reference
+        };
+        assert_eq!(read(&none.body()), Body::Plain, "of no bytes");
+        let beyond = Reference {
+            start: u64::MAX,
+            ..reference
+        };
+        assert_eq!(read(&beyond.body()), Body::Plain, "beyond all streams");
+    }
+
+    #[test]
     fn a_lost_or_mixed_part_is_no_message() {
         let message = [5; 3000];
         let parts = parts(&message);
@@ -338,7 +440,7 @@ mod tests {
 
     proptest! {
         #[test]
-        fn any_body_is_something(bytes in prop::collection::vec(any::<u8>(), 0..60), first in prop::sample::select(b"PSCx".to_vec())) {
+        fn any_body_is_something(bytes in prop::collection::vec(any::<u8>(), 0..60), first in prop::sample::select(b"PRSCx".to_vec())) {
             let mut body = vec![first];
             body.extend(bytes);
             match read(&body) {
@@ -352,6 +454,7 @@ mod tests {
                 Body::Part { index, count, share } => {
                     prop_assert!(index < count && share.len() <= SHARE);
                 }
+                Body::Reference(reference) => prop_assert_eq!(reference.body(), body),
                 Body::Control(_) => prop_assert_eq!(first, b'C'),
                 Body::Plain => {}
             }

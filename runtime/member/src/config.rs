@@ -41,6 +41,9 @@ pub struct Founding {
     pub pb_up_to: u16,
 }
 
+/// The version of the forms of bodies: members of another one couldn't read this one's, and aren't told the group's id.
+const FORM: u32 = 2;
+
 impl Founding {
     /// The options of a node of this founding (docs/NETWORK.md, "A node that speaks lines").
     pub fn options(&self, name: Name) -> String {
@@ -55,10 +58,10 @@ impl Founding {
         self.founders.iter().next()
     }
 
-    /// Eight bytes that differ between foundings and generations, but for an accident: the 64-bit FNV-1a of their numbers.
+    /// Eight bytes that differ between foundings, generations and forms of bodies, but for an accident: the 64-bit FNV-1a of their numbers.
     pub fn digest(&self, generation: u32) -> u64 {
         let text = format!(
-            "{} {} {} {} {generation}",
+            "{FORM} {} {} {} {} {generation}",
             self.founders, self.resilience, self.window, self.pb_up_to
         );
         text.bytes().fold(0xcbf2_9ce4_8422_2325, |hash, byte| {
@@ -96,7 +99,6 @@ pub enum Plant {
     SendsAnew,
     LetterBeforeJournal,
     SettlesEarly,
-    DropsPart,
     GivesUpSilent,
     TakesAnyGroup,
     TakesAnyProcess,
@@ -105,6 +107,10 @@ pub enum Plant {
     SendsAllAnew,
     TakesUnconfirmed,
     FoundersAtTop,
+    GivesWithoutBytes,
+    DropsBytesEarly,
+    NamesBeforeCut,
+    TakesAnyOffset,
 }
 
 /// A list that another one follows: the id of its group, and the entry that ended it.
@@ -141,6 +147,8 @@ pub struct Settings {
     pub least: Option<u8>,
     /// How many bytes of messages may wait to be sent. Each message counts [`MESSAGE_HEAD`] bytes more.
     pub most_waiting: usize,
+    /// How many bytes of its stream a member has out that aren't taken by all, [`LEAST_STREAMED`] to [`MOST_STREAMED`].
+    pub most_streamed: usize,
     /// How many bytes a datagram's payload has at most.
     pub datagram: usize,
     /// How many deliveries the application takes before it says [`Consumed`](crate::Input::Consumed).
@@ -164,6 +172,11 @@ pub struct Settings {
     pub plant: Option<Plant>,
 }
 
+/// The fewest bytes of its stream that a member may have out: some of the longest messages.
+pub const LEAST_STREAMED: usize = 1 << 18;
+/// The most bytes of its stream that a member may have out.
+pub const MOST_STREAMED: usize = 1 << 22;
+
 /// How many bytes each waiting message counts beside its own.
 pub const MESSAGE_HEAD: usize = 32;
 
@@ -182,6 +195,7 @@ impl Settings {
             seed: process,
             least: None,
             most_waiting: 4 << 20,
+            most_streamed: 1 << 20,
             datagram: 1400,
             deliveries: 4096,
             slow_tick: 50_000,
@@ -202,6 +216,9 @@ impl Settings {
             _ if self.datagram < crate::frame::LEAST_DATAGRAM => Err(StartError::Datagram),
             _ if self.most_waiting < crate::body::MOST_MESSAGE + MESSAGE_HEAD => {
                 Err(StartError::Waiting)
+            }
+            _ if !(LEAST_STREAMED..=MOST_STREAMED).contains(&self.most_streamed) => {
+                Err(StartError::Streamed)
             }
             _ if self.deliveries == 0 => Err(StartError::Deliveries),
             _ if self.least.is_some_and(|least| !(1..=16).contains(&least)) => {
@@ -238,6 +255,11 @@ pub enum StartError {
     /// The longest message doesn't fit into what may wait.
     #[error("a message of 65,535 bytes, and 32 more, may wait at least")]
     Waiting,
+    /// The bytes of a stream that may be out are too few or too many.
+    #[error(
+        "{LEAST_STREAMED} to {MOST_STREAMED} bytes of a stream are out before all have taken them"
+    )]
+    Streamed,
     /// The application takes no delivery.
     #[error("the application takes at least one delivery")]
     Deliveries,

@@ -72,6 +72,7 @@ impl Member {
     }
 
     fn deliver_entry(&mut self, number: u32, entry: Entry) -> Option<()> {
+        self.note_taken(number, &entry);
         if !self.is_in_list(number) {
             return Some(());
         }
@@ -88,7 +89,7 @@ impl Member {
                 request,
                 body,
             } => {
-                self.deliver_body(number, from, &body);
+                self.deliver_body(number, from, &body)?;
                 if from == self.me() && !self.ending.has_ended() {
                     self.settle(number, request)?;
                 }
@@ -117,7 +118,7 @@ impl Member {
         Some(())
     }
 
-    fn deliver_body(&mut self, number: u32, from: Name, body: &[u8]) {
+    fn deliver_body(&mut self, number: u32, from: Name, body: &[u8]) -> Option<()> {
         let place = from.place();
         let mut messages: Vec<Vec<u8>> = match body::read(body) {
             Body::Part {
@@ -125,8 +126,6 @@ impl Member {
                 count,
                 share,
             } => {
-                let is_lost = self.has(Plant::DropsPart) && index == 1 && count > 2;
-                let share = if is_lost { &[] } else { share };
                 let assembler = &mut self.delivering.assembler;
                 let whole = assembler.part(from, index, count, share);
                 whole.into_iter().collect()
@@ -134,7 +133,11 @@ impl Member {
             Body::Control(_) => {
                 self.delivering.assembler.give_up(place);
                 self.take_control(number, from, body);
-                return;
+                return Some(());
+            }
+            Body::Reference(reference) => {
+                self.delivering.assembler.give_up(place);
+                self.messages_named(from, &reference)?
             }
             Body::Packed(messages) => {
                 self.delivering.assembler.give_up(place);
@@ -152,5 +155,6 @@ impl Member {
             let at = self.at(number, index);
             self.deliver(Delivery::Message { at, from, message });
         }
+        Some(())
     }
 }

@@ -110,7 +110,7 @@ pub enum HandleError {
 pub struct Position {
     /// How many lists of the group came before this one (docs/MEMBER.md, "Generations").
     pub generation: u32,
-    /// The number of the entry, from 1. Of a message of several parts it is the last one's.
+    /// The number of the entry, from 1. A message beside the list has the number of the entry that names it.
     pub number: u32,
     /// The index among the messages of one entry, from 0.
     pub index: u32,
@@ -263,6 +263,8 @@ pub enum End {
     NoNumbersLeft,
     /// The node gave no answer, as without memory.
     NodeFailed,
+    /// The contents that an entry names aren't there, or aren't what it names.
+    ContentsLost,
 }
 
 /// What is told for logs.
@@ -382,6 +384,16 @@ pub struct Counts {
     pub controls: u64,
     /// Resets that the member began by itself.
     pub resets: u64,
+    /// Bytes of its stream that went out, once for all members.
+    pub bytes_streamed: u64,
+    /// Bytes of streams that it asked for, since they hadn't come.
+    pub bytes_asked: u64,
+    /// Bytes of streams that others asked it for, and that it sent.
+    pub bytes_answered: u64,
+    /// Chunks of streams that it had, or didn't need.
+    pub chunks_dropped: u64,
+    /// Letters that were held until the contents came that they name.
+    pub letters_held: u64,
 }
 
 impl Counts {
@@ -405,6 +417,11 @@ impl Counts {
             deliveries: self.deliveries + other.deliveries,
             controls: self.controls + other.controls,
             resets: self.resets + other.resets,
+            bytes_streamed: self.bytes_streamed + other.bytes_streamed,
+            bytes_asked: self.bytes_asked + other.bytes_asked,
+            bytes_answered: self.bytes_answered + other.bytes_answered,
+            chunks_dropped: self.chunks_dropped + other.chunks_dropped,
+            letters_held: self.letters_held + other.letters_held,
         }
     }
 }
@@ -426,6 +443,8 @@ pub struct Info {
     pub unsettled: usize,
     /// How many bytes of messages wait to be sent, each with its head.
     pub waiting: usize,
+    /// How many letters wait for the contents that they name.
+    pub held: usize,
     /// Members that nothing was heard of for a while.
     pub silent: Names,
     /// At the sequencer, with half of the window used: the members that have taken least.

@@ -9,12 +9,16 @@
 //! | 5, a joiner asks whether the entry of its join stands; of number 0, who is there | group id (8), name (1), process word (8), number (4) |
 //! | 6, confirms it | group id (8), name (1), process word (8), number (4) |
 //! | 7, says that the list ended before it | group id (8), name (1), process word (8), number (4) |
+//! | 8, a chunk of a stream | group id (8), sender's name (1), its process word (8), the name whose stream it is (1), an offset (8), then bytes to the end |
+//! | 9, wants bytes of a stream | group id (8), sender's name (1), its process word (8), the name whose stream it is (1), then ranges to the end, each an offset (8) and a length (4) |
+//! | 10, refuses the group's id, since that list has ended: the latest one has so many before it | nonce (8), generation (4), name (1), process word (8) |
 //!
 //! A letter is its number (4), flags (1: bit 0 any life of the places, bit 1 lives follow), the mask of the places (2), the lives
 //! (8, if they follow), a length (2), and so many bytes of a packet, 12 to 1,152.
 
 use muoswyld::event::To;
 use muoswyld::names::{Name, Names};
+use std::ops::Range;
 
 /// The most bytes of a letter before its packet.
 const LETTER_HEAD: usize = 17;
@@ -32,6 +36,11 @@ const REFUSE: u8 = 4;
 const CONFIRM: u8 = 5;
 const CONFIRMED: u8 = 6;
 const ENDED: u8 = 7;
+const CHUNK: u8 = 8;
+const WANT: u8 = 9;
+/// The bytes of a chunk's payload before its own.
+pub(crate) const CHUNK_HEAD: usize = 1 + 8 + 9 + 1 + 8;
+const LATER: u8 = 10;
 const ANY: u8 = 1;
 const LIVES: u8 = 2;
 
@@ -72,12 +81,33 @@ pub(crate) enum Frame<'a> {
         nonce: u64,
         from: Speaker,
     },
+    /// The group's latest list has so many before it: an earlier one has ended.
+    Later {
+        nonce: u64,
+        generation: u32,
+        from: Speaker,
+    },
     /// Something about an entry of a group's list.
     Entry {
         group: u64,
         from: Speaker,
         number: u32,
         said: Said,
+    },
+    /// Bytes of a name's stream.
+    Chunk {
+        group: u64,
+        from: Speaker,
+        owner: Name,
+        start: u64,
+        bytes: &'a [u8],
+    },
+    /// Bytes of a name's stream are wanted.
+    Want {
+        group: u64,
+        from: Speaker,
+        owner: Name,
+        ranges: Ranges<'a>,
     },
 }
 
@@ -95,7 +125,9 @@ pub(crate) enum Said {
 /// The group that a payload is of, if it says one.
 pub(crate) fn group_of(payload: &[u8]) -> Option<u64> {
     let mut bytes = Bytes(payload);
-    matches!(bytes.u8()?, LETTERS | CONFIRM | CONFIRMED | ENDED).then(|| bytes.u64())?
+    let kind = bytes.u8()?;
+    let has_one = matches!(kind, LETTERS | CONFIRM | CONFIRMED | ENDED | CHUNK | WANT);
+    has_one.then(|| bytes.u64())?
 }
 
 /// Bytes that are read from the front.
@@ -136,6 +168,14 @@ impl<'a> Bytes<'a> {
         })
     }
 
+    /// A range of a stream, of one byte at least.
+    fn range(&mut self) -> Option<Range<u64>> {
+        let start = self.u64()?;
+        let length = self.u32()?;
+        let end = start.checked_add(u64::from(length))?;
+        (length > 0).then_some(start..end)
+    }
+
     fn letter(&mut self) -> Option<Letter<'a>> {
         let number = self.u32()?;
         let flags = self.u8()?;
@@ -169,6 +209,18 @@ impl<'a> Iterator for Letters<'a> {
     }
 }
 
+/// The ranges of a stream that are wanted. All of them were looked at when they were read.
+#[derive(Clone, Copy, Debug, PartialEq, Eq)]
+pub(crate) struct Ranges<'a>(Bytes<'a>);
+
+impl Iterator for Ranges<'_> {
+    type Item = Range<u64>;
+
+    fn next(&mut self) -> Option<Range<u64>> {
+        self.0.range()
+    }
+}
+
 /// What a payload is; None if it is none of the kinds by its form.
 pub(crate) fn read(payload: &[u8]) -> Option<Frame<'_>> {
     let mut bytes = Bytes(payload);
@@ -192,6 +244,11 @@ pub(crate) fn read(payload: &[u8]) -> Option<Frame<'_>> {
             nonce: bytes.u64()?,
             from: bytes.speaker()?,
         },
+        LATER => Frame::Later {
+            nonce: bytes.u64()?,
+            generation: bytes.u32()?,
+            from: bytes.speaker()?,
+        },
         kind @ (CONFIRM | CONFIRMED | ENDED) => Frame::Entry {
             group: bytes.u64()?,
             from: bytes.speaker()?,
@@ -202,9 +259,33 @@ pub(crate) fn read(payload: &[u8]) -> Option<Frame<'_>> {
                 _ => Said::IsAbove,
             },
         },
+        CHUNK => Frame::Chunk {
+            group: bytes.u64()?,
+            from: bytes.speaker()?,
+            owner: Name::of_byte(bytes.u8()?),
+            start: bytes.u64()?,
+            bytes: std::mem::take(&mut bytes.0),
+        },
+        WANT => Frame::Want {
+            group: bytes.u64()?,
+            from: bytes.speaker()?,
+            owner: Name::of_byte(bytes.u8()?),
+            ranges: ranges_of(&mut bytes)?,
+        },
         _ => return None,
     };
-    bytes.0.is_empty().then_some(frame)
+    let is_empty = matches!(frame, Frame::Chunk { bytes: [], .. });
+    (bytes.0.is_empty() && !is_empty).then_some(frame)
+}
+
+/// One range at least, and nothing behind the last one.
+fn ranges_of<'a>(bytes: &mut Bytes<'a>) -> Option<Ranges<'a>> {
+    let ranges = Ranges(*bytes);
+    bytes.range()?;
+    while !bytes.0.is_empty() {
+        bytes.range()?;
+    }
+    Some(ranges)
 }
 
 /// One letter at least, and nothing behind the last one.
@@ -278,6 +359,15 @@ pub(crate) fn refuse(nonce: u64, from: Speaker) -> Vec<u8> {
     payload
 }
 
+/// The payload that refuses the group's id, since the list has ended that was asked for.
+pub(crate) fn later(nonce: u64, generation: u32, from: Speaker) -> Vec<u8> {
+    let mut payload = vec![LATER];
+    payload.extend(nonce.to_be_bytes());
+    payload.extend(generation.to_be_bytes());
+    push_speaker(&mut payload, from);
+    payload
+}
+
 /// The payload that says something about an entry of a group's list.
 pub(crate) fn entry(group: u64, from: Speaker, number: u32, said: Said) -> Vec<u8> {
     let mut payload = vec![match said {
@@ -288,6 +378,34 @@ pub(crate) fn entry(group: u64, from: Speaker, number: u32, said: Said) -> Vec<u
     payload.extend(group.to_be_bytes());
     push_speaker(&mut payload, from);
     payload.extend(number.to_be_bytes());
+    payload
+}
+
+fn begin_of_stream(kind: u8, group: u64, from: Speaker, owner: Name, room: usize) -> Vec<u8> {
+    let mut payload = Vec::with_capacity(room);
+    payload.push(kind);
+    payload.extend(group.to_be_bytes());
+    push_speaker(&mut payload, from);
+    payload.push(owner.byte());
+    payload
+}
+
+/// The payload of a chunk of a name's stream.
+pub(crate) fn chunk(group: u64, from: Speaker, owner: Name, start: u64, bytes: &[u8]) -> Vec<u8> {
+    let mut payload = begin_of_stream(CHUNK, group, from, owner, CHUNK_HEAD + bytes.len());
+    payload.extend(start.to_be_bytes());
+    payload.extend(bytes);
+    payload
+}
+
+/// The payload that wants ranges of a name's stream.
+pub(crate) fn want(group: u64, from: Speaker, owner: Name, ranges: &[Range<u64>]) -> Vec<u8> {
+    let mut payload = begin_of_stream(WANT, group, from, owner, CHUNK_HEAD + 12 * ranges.len());
+    for range in ranges {
+        let length = range.end.saturating_sub(range.start);
+        payload.extend(range.start.to_be_bytes());
+        payload.extend(u32::try_from(length).unwrap_or(u32::MAX).to_be_bytes());
+    }
     payload
 }
 
@@ -370,6 +488,18 @@ mod tests {
         assert_eq!(refuse(4, ME), refuses);
         let read_again = Frame::Refuse { nonce: 4, from: ME };
         assert_eq!(read(&refuses), Some(read_again));
+        let laters = [
+            10, 0, 0, 0, 0, 0, 0, 0, 4, 0, 0, 1, 2, 0x21, 1, 2, 3, 4, 5, 6, 7, 8,
+        ];
+        assert_eq!(later(4, 258, ME), laters);
+        let (nonce, generation, from) = (4, 258, ME);
+        let read_again = Frame::Later {
+            nonce,
+            generation,
+            from,
+        };
+        assert_eq!(read(&laters), Some(read_again));
+        assert_eq!(group_of(&laters), None);
     }
 
     #[test]
@@ -395,6 +525,49 @@ mod tests {
         assert_eq!(group_of(&begin(7, ME, 0)), Some(7));
         assert_eq!(group_of(&ask(3, ME, 4)), None);
         assert_eq!(group_of(&[5, 1]), None);
+    }
+
+    #[test]
+    fn bytes_of_streams_are_as_the_page_says() {
+        let head = [
+            0, 0, 0, 0, 0, 0, 0, 9, 0x21, 1, 2, 3, 4, 5, 6, 7, 8, 0x13, 0, 0, 0, 0, 0, 0, 1, 2,
+        ];
+        let owner = Name::of_byte(0x13);
+        let (group, from) = (9, ME);
+        let wanted = [&[8][..], &head, b"abc"].concat();
+        assert_eq!(chunk(9, ME, owner, 258, b"abc"), wanted);
+        assert_eq!(wanted.len(), CHUNK_HEAD + 3);
+        let (start, bytes) = (258, &b"abc"[..]);
+        let frame = Frame::Chunk {
+            group,
+            from,
+            owner,
+            start,
+            bytes,
+        };
+        assert_eq!((read(&wanted), group_of(&wanted)), (Some(frame), Some(9)));
+        for length in 0..=CHUNK_HEAD {
+            assert_eq!(read(&wanted[..length]), None, "{length}");
+        }
+        let ranges = [258..263, 1000..1001];
+        let second = [0, 0, 0, 0, 0, 0, 3, 232, 0, 0, 0, 1];
+        let wanted = [&[9][..], &head, &[0, 0, 0, 5], &second].concat();
+        assert_eq!(want(9, ME, owner, &ranges), wanted);
+        let Some(Frame::Want { ranges: found, .. }) = read(&wanted) else {
+            panic!("not a want");
+        };
+        assert_eq!(found.collect::<Vec<_>>(), ranges);
+        assert_eq!(group_of(&wanted), Some(9));
+        for length in 0..wanted.len() {
+            // cut between the two ranges it wants the first one
+            let is_whole = length == wanted.len() - 12;
+            assert_eq!(read(&wanted[..length]).is_some(), is_whole, "{length}");
+        }
+        let none = want(9, ME, owner, std::slice::from_ref(&(258..258)));
+        assert_eq!(read(&none), None, "a range of no bytes");
+        let mut beyond = want(9, ME, owner, std::slice::from_ref(&(258..263)));
+        beyond[19..27].fill(255);
+        assert_eq!(read(&beyond), None, "a range beyond all numbers");
     }
 
     #[test]
@@ -429,7 +602,7 @@ mod tests {
 
     proptest! {
         #[test]
-        fn any_bytes_are_read_or_refused(bytes in prop::collection::vec(any::<u8>(), 0..200), kind in 0_u8..6) {
+        fn any_bytes_are_read_or_refused(bytes in prop::collection::vec(any::<u8>(), 0..200), kind in 0_u8..12) {
             let mut bytes = bytes;
             if let Some(first) = bytes.first_mut() {
                 *first = kind;
@@ -444,6 +617,17 @@ mod tests {
                 }
                 prop_assert!(count > 0);
                 prop_assert!(again.len() <= bytes.len());
+            }
+            match read(&bytes) {
+                Some(Frame::Chunk { group, from, owner, start, bytes: had }) => {
+                    prop_assert_eq!(chunk(group, from, owner, start, had), bytes);
+                }
+                Some(Frame::Want { group, from, owner, ranges }) => {
+                    let ranges: Vec<_> = ranges.collect();
+                    prop_assert!(!ranges.is_empty());
+                    prop_assert_eq!(want(group, from, owner, &ranges), bytes);
+                }
+                _ => {}
             }
         }
 

@@ -330,7 +330,8 @@ impl Generations {
         });
         settings.voters = settings.voters.map(|_| successor.voters);
         settings.seed = settings.seed.rotate_left(17) ^ successor.group;
-        let next = Member::new(settings.clone(), now)?;
+        let mut next = Member::new(settings.clone(), now)?;
+        next.come_from(&self.current);
         let old = Old {
             member: std::mem::replace(&mut self.current, next),
             generation: self.settings.generation,

@@ -1,7 +1,7 @@
 //! What comes: letters of the group, and the group's id, which a member learns before it speaks.
 
 use crate::config::{Plant, Time};
-use crate::event::Notice;
+use crate::event::{End, Notice};
 use crate::every::{Every, Processes};
 use crate::frame::{self, Frame, Letter, Letters, Speaker};
 use crate::member::Member;
@@ -13,11 +13,16 @@ use muoswyld::names::{Name, Names, PLACES};
 /// How often a place is told the group's id at most: once in so many microseconds.
 const ANSWER_EVERY: u64 = 1_000;
 
+/// Of how many earlier lists the foundings' digests are kept.
+const MOST_EARLIER: usize = 4096;
+
 /// What a member knows of the others' processes.
 #[derive(Debug)]
 pub(crate) struct Hearing {
     /// The group's id, once it is known.
     pub(crate) group: Option<u64>,
+    /// The digests of the foundings of the group's earlier lists in which this process was, the latest one last.
+    pub(crate) earlier: Vec<u64>,
     /// When it is asked for next.
     pub(crate) ask_at: Time,
     asks: u32,
@@ -41,6 +46,7 @@ impl Hearing {
     pub(crate) fn new(now: Time, processes: Processes) -> Hearing {
         Hearing {
             group: None,
+            earlier: Vec::new(),
             ask_at: now,
             asks: 0,
             nonce: 0,
@@ -126,16 +132,45 @@ impl Member {
                 self.refused(nonce, from);
                 Some(())
             }
+            Some(Frame::Later {
+                nonce,
+                generation,
+                from,
+            }) => {
+                self.is_later(nonce, generation, from);
+                Some(())
+            }
             Some(Frame::Entry {
                 group,
                 from,
                 number,
                 said,
             }) => {
-                if self.may_hear(group, from) {
-                    self.hearing.processes.remember(from.name, from.process);
-                    self.is_heard(from.name);
+                if self.is_of_member(group, from) {
                     self.hear_entry(from, number, said);
+                }
+                Some(())
+            }
+            Some(Frame::Chunk {
+                group,
+                from,
+                owner,
+                start,
+                bytes,
+            }) => {
+                if self.is_of_member(group, from) {
+                    self.hear_chunk(owner, start, bytes);
+                }
+                Some(())
+            }
+            Some(Frame::Want {
+                group,
+                from,
+                owner,
+                ranges,
+            }) => {
+                if self.is_of_member(group, from) {
+                    self.send_wanted(from.name, owner, ranges);
                 }
                 Some(())
             }
@@ -181,10 +216,12 @@ impl Member {
             return;
         };
         let is_of_group = digest == self.settings.founding.digest(self.settings.generation);
-        if !is_of_group {
-            self.drop_other_group(from);
-        } else if !self.may_speak(from) {
+        let may_be_earlier = !is_of_group && self.may_be_earlier(digest);
+        if is_of_group && !self.may_speak(from) {
             return;
+        }
+        if !is_of_group && !may_be_earlier {
+            self.drop_other_group(from);
         }
         let answered = &mut self.hearing.answered[usize::from(from.name.place())];
         if answered.is_some_and(|last| self.now.since(last) < ANSWER_EVERY) {
@@ -193,9 +230,40 @@ impl Member {
         *answered = Some(self.now);
         let answer = match is_of_group {
             true => frame::tell(nonce, group, self.speaker()),
+            false if may_be_earlier => {
+                frame::later(nonce, self.settings.generation, self.speaker())
+            }
             false => frame::refuse(nonce, self.speaker()),
         };
         self.send_direct(Names::nobody().with(from.name), answer);
+    }
+
+    /// Its list follows another one, in which this process was.
+    pub(crate) fn come_from(&mut self, before: &Member) {
+        let settings = &before.settings;
+        let digest = settings.founding.digest(settings.generation);
+        self.hearing.earlier = before.hearing.earlier.clone();
+        if self.hearing.earlier.len() < MOST_EARLIER {
+            self.hearing.earlier.push(digest);
+        }
+    }
+
+    /// Whether a digest may be that of an earlier list of this group. Who was in all of them knows. Else whoever asks decides, by which list
+    /// it asks for.
+    fn may_be_earlier(&self, digest: u64) -> bool {
+        let earlier = &self.hearing.earlier;
+        let knows_all = earlier.len() as u64 == u64::from(self.settings.generation);
+        earlier.contains(&digest) || !knows_all
+    }
+
+    /// Hears that the group has come to a later list than the one whose id it asks for: that one has ended.
+    fn is_later(&mut self, nonce: u64, generation: u32, from: Speaker) {
+        if generation <= self.settings.generation {
+            return self.refused(nonce, from);
+        }
+        if self.hearing.group.is_none() && nonce == self.hearing.nonce {
+            self.end(End::Superseded);
+        }
     }
 
     /// Hears that the one whom it asked is of another founding.
@@ -225,12 +293,20 @@ impl Member {
         self.may_speak(from)
     }
 
+    /// Whether a datagram may be heard. If so, its sender was heard.
+    fn is_of_member(&mut self, group: u64, from: Speaker) -> bool {
+        let may_hear = self.may_hear(group, from);
+        if may_hear {
+            self.hearing.processes.remember(from.name, from.process);
+            self.is_heard(from.name);
+        }
+        may_hear
+    }
+
     fn hear_letters(&mut self, group: u64, from: Speaker, letters: Letters) -> Option<()> {
-        if !self.may_hear(group, from) {
+        if !self.is_of_member(group, from) {
             return Some(());
         }
-        self.hearing.processes.remember(from.name, from.process);
-        self.is_heard(from.name);
         for letter in letters {
             self.hear_letter(from.name, &letter)?;
         }
@@ -266,6 +342,11 @@ impl Member {
         if kind == Some(Kind::LeaveAsk) {
             self.leaving.heard(self.now);
         }
+        self.hear_with_contents(from, letter)
+    }
+
+    /// Gives the node a letter.
+    pub(crate) fn give_letter(&mut self, from: Name, letter: &Letter) -> Option<()> {
         self.counts.letters_heard += 1;
         self.note_report(from, letter.packet);
         let event = Event::Hear {

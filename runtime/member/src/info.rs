@@ -16,6 +16,7 @@ impl Member {
             standing: self.standing,
             unsettled: self.sending.unsettled(),
             waiting: self.sending.queue.waiting(),
+            held: self.contents.held.len(),
             silent: self.silent(),
             slow: self.slow(),
             stopped: self.stopped.latest(),

@@ -27,13 +27,16 @@
 mod body;
 mod chance;
 mod config;
+mod contents;
 mod delivering;
 mod ending_list;
+mod ends;
 mod event;
 mod every;
 mod frame;
 mod generations;
 mod hearing;
+mod held;
 mod info;
 mod journal;
 mod leaving;
@@ -44,11 +47,16 @@ mod packet;
 mod queue;
 mod resetting;
 mod sending;
+mod stream;
+mod streaming;
 mod succeeding;
 mod timers;
 
 pub use body::MOST_MESSAGE;
-pub use config::{Before, Founding, Limits, Plant, Settings, StartError, Time, MESSAGE_HEAD};
+pub use config::{
+    Before, Founding, Limits, Plant, Settings, StartError, Time, LEAST_STREAMED, MESSAGE_HEAD,
+    MOST_STREAMED,
+};
 pub use event::{
     Counts, Delivery, End, HandleError, Info, Input, Next, NotReset, Notice, Output, Position,
     Successor, Unsent,

@@ -3,6 +3,7 @@
 use crate::body::{Assembler, MOST_MESSAGE};
 use crate::chance::Chance;
 use crate::config::{Plant, Settings, StartError, Time};
+use crate::contents::Contents;
 use crate::delivering::Delivering;
 use crate::ending_list::EndingList;
 use crate::event::{Counts, End, HandleError, Input, Notice, Output};
@@ -28,8 +29,9 @@ const MOST_LOOKS: usize = 64;
 /// A member of a group.
 ///
 /// Its memory is bounded: [`Settings::most_waiting`] bytes of messages; of what is under way one body, and at most as many bodies
-/// as the window and 15 that aren't delivered yet; the node's list, which has as many entries; a message of 65,535 bytes for each of
-/// the sixteen places; and what was handled since the last release.
+/// as the window and 15 that aren't delivered yet; the node's list, which has as many entries; 8 megabytes of each stream, which are those
+/// of the members and of who left not long ago; 256 letters that wait for contents; a message of 65,535 bytes for each of the sixteen
+/// places; and what was handled since the last release.
 pub struct Member {
     pub(crate) settings: Settings,
     pub(crate) node: Node,
@@ -40,6 +42,7 @@ pub struct Member {
     pub(crate) hearing: Hearing,
     pub(crate) sending: Sending,
     pub(crate) delivering: Delivering,
+    pub(crate) contents: Contents,
     pub(crate) ending: EndingList,
     pub(crate) timers: Timers,
     pub(crate) resetting: Resetting,
@@ -74,6 +77,7 @@ impl Member {
             hearing: Hearing::new(now, Processes::new()),
             sending: Sending::new(Queue::new(settings.most_waiting)),
             delivering: Delivering::new(settings.deliveries, Assembler::default()),
+            contents: Contents::default(),
             ending: EndingList::new(&settings),
             timers: Timers::new(now),
             resetting: Resetting::default(),
@@ -138,6 +142,7 @@ impl Member {
         out.extend(last);
         out.append(&mut self.outputs);
         self.sending.new_turn();
+        self.contents.new_turn();
     }
 
     fn release_datagrams(&mut self, out: &mut Vec<Output>) {
@@ -169,6 +174,7 @@ impl Member {
             .min(self.leave_at())
             .min(self.confirms_at())
             .min(self.greets_at())
+            .min(self.wants_at())
             .min(self.succeeds_at())
             .min(self.paced_until())
     }
@@ -203,7 +209,7 @@ impl Member {
     }
 
     /// Whether it has a list, and is among its own members.
-    pub(crate) fn is_member(&self) -> bool {
+    pub fn is_member(&self) -> bool {
         let has_list = matches!(
             self.standing.role,
             Role::Member | Role::Sequencer | Role::Coordinator
@@ -262,6 +268,7 @@ impl Member {
         }
         self.note_ballot(&did.outcome);
         self.note_progress();
+        self.pass_contents();
         Some(did.outcome)
     }
 
@@ -279,6 +286,8 @@ impl Member {
         self.find()?;
         self.confirm();
         self.greet();
+        self.give_held()?;
+        self.want_contents();
         self.succeed_by_itself();
         for _ in 0..MOST_LOOKS {
             let before = self.counts.steps;

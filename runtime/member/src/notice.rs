@@ -34,7 +34,7 @@ impl fmt::Display for Notice {
             Notice::NotReset(why) => write!(f, "a reset came to no view: {why}"),
             Notice::OtherGroup(name) => write!(
                 f,
-                "what comes of {name} is dropped: it is of another group, of an earlier run, or of other settings"
+                "what comes of {name} is dropped: it is of another group, of an earlier run, of other settings, or of another version of this program"
             ),
             Notice::OtherProcess(name) => write!(
                 f,

@@ -1,5 +1,7 @@
 //! The few fields of a packet that a member looks at (docs/PROTOCOL.md, "Packets").
 
+use muoswyld::names::Name;
+
 /// The kinds of packets that a member treats on their own.
 #[derive(Clone, Copy, Debug, PartialEq, Eq)]
 pub(crate) enum Kind {
@@ -40,6 +42,27 @@ pub(crate) fn front_of(packet: &[u8]) -> Option<(Front, bool)> {
         6 => Some((Front::Reported, true)),
         3 | 4 => Some((Front::Accepted, false)),
         5 => Some((Front::Accepted, packet.get(24) == Some(&0))),
+        _ => None,
+    }
+}
+
+/// The body that a packet carries, and whose it is: of a Request, a Spread, and of a Bcast and a Piece that have a Data. No other packet has one.
+pub(crate) fn body_of(packet: &[u8]) -> Option<(Name, &[u8])> {
+    const DATA: Option<&u8> = Some(&1);
+    let (from, body) = match packet.get(3)? {
+        1 | 2 => (4, 24),
+        3 if packet.get(24) == DATA => (25, 30),
+        16 if packet.get(20) == DATA => (21, 26),
+        _ => return None,
+    };
+    Some((Name::of_byte(*packet.get(from)?), packet.get(body..)?))
+}
+
+/// The number of the entry that a packet tells of: a Bcast, an Order or a Piece.
+pub(crate) fn numbered(packet: &[u8]) -> Option<u32> {
+    match packet.get(3)? {
+        3 | 4 => number_at(packet, 20),
+        16 => number_at(packet, 16),
         _ => None,
     }
 }
@@ -89,6 +112,53 @@ mod tests {
         assert_eq!(of(3, 26, 0), Some((Front::Accepted, false)));
         assert_eq!(of(4, 29, 0), Some((Front::Accepted, false)));
         assert_eq!((of(2, 24, 0), of(9, 12, 0)), (None, None));
+    }
+
+    #[test]
+    fn bodies_are_where_the_page_has_them() {
+        let of = |kind: u8, rest: &[u8]| {
+            let mut packet = vec![0x41, 0x47, 3, kind, 7, 0, 0, 0, 3, 2, 0, 99];
+            packet.extend(rest);
+            body_of(&packet).map(|(name, body)| (name.byte(), body.to_vec()))
+        };
+        let body = b"body".to_vec();
+        let request = [&[0; 12][..], &body].concat();
+        assert_eq!(of(1, &request), Some((7, body.clone())));
+        assert_eq!(of(2, &request), Some((7, body.clone())));
+        let entry = |tag: u8| [&[tag, 0x21, 0, 0, 0, 9][..], b"body"].concat();
+        let after = |fields: usize, tag: u8| [&vec![0; fields][..], &entry(tag)].concat();
+        assert_eq!(of(3, &after(12, 1)), Some((0x21, body.clone())));
+        assert_eq!(of(16, &after(8, 1)), Some((0x21, body)));
+        for tag in 2..=4 {
+            assert_eq!(
+                (of(3, &after(12, tag)), of(16, &after(8, tag))),
+                (None, None)
+            );
+        }
+        for kind in (0..=20).filter(|kind| ![1, 2, 3, 16].contains(kind)) {
+            assert_eq!(of(kind, &after(12, 1)), None, "{kind}");
+        }
+        assert_eq!(
+            (of(1, &[0; 11]), of(3, &[0; 3]), of(16, &[])),
+            (None, None, None)
+        );
+        assert_eq!(of(1, &[0; 12]), Some((7, vec![])));
+    }
+
+    #[test]
+    fn entries_are_numbered_where_the_page_has_it() {
+        let packet = |kind: u8| {
+            let mut packet = vec![0x41, 0x47, 3, kind];
+            packet.extend(4..40);
+            packet
+        };
+        let (at_16, at_20) = (Some(0x1011_1213), Some(0x1415_1617));
+        assert_eq!((numbered(&packet(3)), numbered(&packet(4))), (at_20, at_20));
+        assert_eq!(numbered(&packet(16)), at_16);
+        for kind in (0..=20).filter(|kind| ![3, 4, 16].contains(kind)) {
+            assert_eq!(numbered(&packet(kind)), None, "{kind}");
+        }
+        assert_eq!(numbered(&packet(3)[..23]), None);
     }
 
     #[test]

@@ -1,6 +1,6 @@
 //! Messages that wait to be sent, and the bodies that they go out in.
 
-use crate::body::{is_whole_body, part_count, part_of, read, Body, Packing, MOST_PACKED};
+use crate::body::{fit_into_one, is_whole_body, read, size_of, Body, Packing};
 use crate::config::MESSAGE_HEAD;
 use std::collections::VecDeque;
 
@@ -15,10 +15,8 @@ struct Message {
 pub(crate) struct Load {
     /// Its bytes.
     pub(crate) body: Vec<u8>,
-    /// The tickets of the messages that end in it, in their order.
+    /// The tickets of its messages, in their order.
     pub(crate) tickets: Vec<u64>,
-    /// The message whose last part it is.
-    pub(crate) whole: Option<Vec<u8>>,
 }
 
 impl Load {
@@ -27,18 +25,15 @@ impl Load {
         Load {
             body,
             tickets: Vec::new(),
-            whole: None,
         }
     }
 
-    /// The messages that end in it, with their tickets.
+    /// Its messages with their tickets, if they stand in it.
     pub(crate) fn into_messages(self) -> Vec<(u64, Vec<u8>)> {
-        let messages = match (self.whole, read(&self.body)) {
-            (Some(whole), _) => vec![whole],
-            (None, Body::Packed(messages)) => messages.map(<[u8]>::to_vec).collect(),
-            (None, Body::Plain) => vec![self.body],
-            // a part that isn't the last one, or control
-            (None, Body::Part { .. } | Body::Control(_)) => Vec::new(),
+        let messages = match read(&self.body) {
+            Body::Packed(messages) => messages.map(<[u8]>::to_vec).collect(),
+            Body::Plain => vec![self.body],
+            Body::Reference(_) | Body::Part { .. } | Body::Control(_) => Vec::new(),
         };
         self.tickets.into_iter().zip(messages).collect()
     }
@@ -50,8 +45,6 @@ pub(crate) struct Queue {
     messages: VecDeque<Message>,
     waiting: usize,
     most: usize,
-    /// How many parts of the first message went out.
-    parts: usize,
 }
 
 impl Queue {
@@ -60,7 +53,6 @@ impl Queue {
             messages: VecDeque::new(),
             waiting: 0,
             most,
-            parts: 0,
         }
     }
 
@@ -84,9 +76,24 @@ impl Queue {
         self.messages.len()
     }
 
-    /// Whether a message went out in part.
-    pub(crate) fn is_amid_message(&self) -> bool {
-        self.parts > 0
+    /// How many bytes the messages that wait take in a stream.
+    pub(crate) fn size(&self) -> usize {
+        self.waiting - self.len() * (MESSAGE_HEAD - size_of(0))
+    }
+
+    /// How many bytes the first message has.
+    pub(crate) fn first_length(&self) -> Option<usize> {
+        self.messages.front().map(|first| first.bytes.len())
+    }
+
+    /// Whether all that waits fits into one body.
+    pub(crate) fn fits_into_one_body(&self) -> bool {
+        fit_into_one(self.size()) || self.len() == 1 && self.is_first_whole()
+    }
+
+    fn is_first_whole(&self) -> bool {
+        let first = self.messages.front();
+        first.is_some_and(|first| is_whole_body(&first.bytes))
     }
 
     pub(crate) fn is_empty(&self) -> bool {
@@ -110,14 +117,19 @@ impl Queue {
         self.messages.push_back(Message { ticket, bytes });
     }
 
-    /// The next body: as many small messages as fit, one that fills a body, or a part of a long one.
+    /// The next body, if all that waits fits into one.
     pub(crate) fn next(&mut self) -> Option<Load> {
         match self.messages.front() {
             None => None,
-            Some(first) if is_whole_body(&first.bytes) => self.next_whole(),
-            Some(first) if first.bytes.len() > MOST_PACKED => self.next_part(),
+            Some(_) if !self.fits_into_one_body() => None,
+            Some(_) if self.is_first_whole() => self.next_whole(),
             Some(_) => Some(self.next_packed()),
         }
+    }
+
+    /// Takes the first message out, with its ticket.
+    pub(crate) fn take(&mut self) -> Option<(u64, Vec<u8>)> {
+        self.pop().map(|message| (message.ticket, message.bytes))
     }
 
     fn pop(&mut self) -> Option<Message> {
@@ -131,25 +143,6 @@ impl Queue {
         Some(Load {
             body: message.bytes,
             tickets: vec![message.ticket],
-            whole: None,
-        })
-    }
-
-    fn next_part(&mut self) -> Option<Load> {
-        let first = self.messages.front()?;
-        let body = part_of(&first.bytes, self.parts);
-        self.parts += 1;
-        let (mut tickets, mut whole) = (Vec::new(), None);
-        if self.parts == part_count(first.bytes.len()) {
-            self.parts = 0;
-            let message = self.pop()?;
-            tickets.push(message.ticket);
-            whole = Some(message.bytes);
-        }
-        Some(Load {
-            body,
-            tickets,
-            whole,
         })
     }
 
@@ -169,14 +162,12 @@ impl Queue {
         Load {
             body: packing.into_body(),
             tickets,
-            whole: None,
         }
     }
 
-    /// Takes all messages out, with their tickets. One of which some parts went out is among them.
+    /// Takes all messages out, with their tickets.
     pub(crate) fn clear(&mut self) -> impl Iterator<Item = (u64, Vec<u8>)> + '_ {
         self.waiting = 0;
-        self.parts = 0;
         let messages = self.messages.drain(..);
         messages.map(|message| (message.ticket, message.bytes))
     }
@@ -185,9 +176,7 @@ impl Queue {
 #[cfg(test)]
 mod tests {
     use super::*;
-    use crate::body::Assembler;
-    use muoswyld::names::Name;
-    use proptest::prelude::*;
+    use crate::body::REFERENCE;
 
     fn queue_of(lengths: &[usize]) -> Queue {
         let mut queue = Queue::new(1 << 20);
@@ -197,150 +186,85 @@ mod tests {
         queue
     }
 
-    /// The tickets and the length of each body.
-    fn loads(lengths: &[usize]) -> Vec<(Vec<u64>, usize)> {
+    /// The tickets and the length of the body, if all fits into one.
+    fn load(lengths: &[usize]) -> Option<(Vec<u64>, usize)> {
         let mut queue = queue_of(lengths);
-        let mut loads = Vec::new();
-        while let Some(load) = queue.next() {
-            loads.push((load.tickets, load.body.len()));
+        let fits = queue.fits_into_one_body() && !lengths.is_empty();
+        let load = queue.next();
+        assert_eq!(load.is_some(), fits);
+        if load.is_some() {
+            assert_eq!((queue.waiting(), queue.len()), (0, 0));
         }
-        assert_eq!((queue.waiting(), queue.len()), (0, 0));
-        loads
+        load.map(|load| (load.tickets, load.body.len()))
     }
 
     #[test]
-    fn small_messages_are_packed() {
-        assert_eq!(loads(&[]), []);
-        assert_eq!(loads(&[0]), [(vec![0], 3)]);
-        assert_eq!(loads(&[64; 3]), [(vec![0, 1, 2], 199)]);
-        assert_eq!(loads(&[1019, 0]), [(vec![0, 1], 1024)]);
-        assert_eq!(loads(&[1020, 0]), [(vec![0], 1023), (vec![1], 3)]);
-        assert_eq!(loads(&[1021, 1]), [(vec![0], 1024), (vec![1], 4)]);
-        let many = loads(&[64; 16]);
-        assert_eq!(many[0], ((0..15).collect(), 991));
-        assert_eq!(many[1], (vec![15], 67));
-    }
-
-    #[test]
-    fn long_messages_go_in_parts_in_their_order() {
-        let two = [(vec![], 1024), (vec![0], 11)];
-        assert_eq!(loads(&[1025]), two);
-        let mixed = loads(&[5, 1026, 1027, 6]);
-        let wanted = [
-            (vec![0], 8),
-            (vec![], 1024),
-            (vec![1], 12),
-            (vec![], 1024),
-            (vec![2], 13),
-            (vec![3], 9),
-        ];
-        assert_eq!(mixed, wanted);
-        let longest = loads(&[65_535]);
-        assert_eq!(longest.len(), 65);
-        assert!(longest[..64]
-            .iter()
-            .all(|load| load.0.is_empty() && load.1 == 1024));
-        assert_eq!(longest[64], (vec![0], 5 + 65_535 - 64 * 1019));
+    fn what_fits_into_one_body_is_one() {
+        assert_eq!(load(&[]), None);
+        assert_eq!(load(&[0]), Some((vec![0], 3)));
+        assert_eq!(load(&[64; 3]), Some((vec![0, 1, 2], 199)));
+        assert_eq!(load(&[1019, 0]), Some((vec![0, 1], 1024)));
+        assert_eq!(load(&[1020, 0]), None);
+        assert_eq!(load(&[1021]), Some((vec![0], 1024)));
+        assert_eq!(load(&[64; 15]), Some(((0..15).collect(), 991)));
+        assert_eq!(load(&[64; 16]), None);
     }
 
     #[test]
     fn a_message_that_fills_a_body_goes_as_it_is() {
-        let one = |length| [(vec![0], length)];
         for length in 1022..=1024 {
-            assert_eq!(loads(&[length]), one(length));
+            assert_eq!(load(&[length]), Some((vec![0], length)));
+            assert_eq!(load(&[length, 0]), None);
         }
-        assert_eq!(
-            loads(&[5, 1024, 6]),
-            [(vec![0], 8), (vec![1], 1024), (vec![2], 9)]
-        );
+        assert_eq!(load(&[1025]), None);
         for first in *b"SPC" {
             let mut queue = Queue::new(1 << 20);
             // read as a part, as a packed message or as control it wouldn't come back
             let mut message = vec![0; 1024];
             message[..5].copy_from_slice(&[first, 0, 0, 0, 2]);
             message[1..3].copy_from_slice(&if first == b'P' { [3, 253] } else { [0, 0] });
-            queue.push(7, message).expect("room");
-            assert_eq!(queue.next().map(|load| load.tickets), Some(vec![]));
-            assert_eq!(queue.next().map(|load| load.tickets), Some(vec![7]));
+            queue.push(7, message.clone()).expect("room");
+            assert_eq!(queue.next(), None);
+            assert_eq!(queue.take(), Some((7, message)));
         }
-    }
-
-    /// The messages of all bodies of a queue, as a member delivers them.
-    fn come_back(messages: &[Vec<u8>]) -> Vec<Vec<u8>> {
         let mut queue = Queue::new(1 << 20);
-        for (k, message) in messages.iter().enumerate() {
-            queue.push(k as u64, message.clone()).expect("room");
-        }
-        let mut assembler = Assembler::default();
-        let (mut found, mut tickets) = (Vec::new(), Vec::new());
-        let from = Name::first(3).expect("a place");
-        while let Some(load) = queue.next() {
-            assert!(load.body.len() <= 1024);
-            let before = found.len();
-            match read(&load.body) {
-                Body::Packed(messages) => found.extend(messages.map(<[u8]>::to_vec)),
-                Body::Plain => found.push(load.body),
-                Body::Control(_) => panic!("a message became control"),
-                Body::Part {
-                    index,
-                    count,
-                    share,
-                } => found.extend(assembler.part(from, index, count, share)),
-            }
-            assert_eq!(found.len() - before, load.tickets.len());
-            tickets.extend(load.tickets);
-        }
-        assert!(tickets.into_iter().eq(0..messages.len() as u64));
-        found
+        let message = vec![REFERENCE; 1024];
+        queue.push(7, message.clone()).expect("room");
+        // no reference is as long
+        assert_eq!(queue.next().map(|load| load.body), Some(message));
     }
 
     #[test]
-    fn all_lengths_and_first_bytes_come_back() {
-        for length in 0..=2100 {
+    fn all_lengths_and_first_bytes_come_back_from_a_body() {
+        for length in 0..=1024 {
             let all = 0..=255;
-            let near_an_edge = (1015..1030).contains(&length) || (2034..2044).contains(&length);
+            let near_an_edge = (1015..1030).contains(&length) || (14..20).contains(&length);
             let firsts: Vec<u8> = match near_an_edge {
                 true => all.collect(),
-                false => b"SPC\0x".to_vec(),
+                false => b"SPRC\0x".to_vec(),
             };
             for first in firsts {
                 let mut message: Vec<u8> = (0..length).map(|k| k as u8).collect();
                 if let Some(byte) = message.first_mut() {
                     *byte = first;
                 }
-                let messages = [message];
-                assert_eq!(come_back(&messages), messages, "{length} {first}");
+                let mut queue = Queue::new(1 << 20);
+                queue.push(5, message.clone()).expect("room");
+                let Some(load) = queue.next() else {
+                    assert!(length > 1021, "{length} {first}");
+                    continue;
+                };
+                assert_eq!(load.into_messages(), [(5, message)], "{length} {first}");
             }
         }
     }
 
-    proptest! {
-        #[test]
-        fn any_messages_come_back(
-            heads in prop::collection::vec((prop::sample::select(b"SPCx".to_vec()), prop::collection::vec(any::<u8>(), 4), 0_usize..2100), 0..20),
-            edges in prop::collection::vec(1018_usize..1028, 20),
-            is_edge in prop::collection::vec(any::<bool>(), 20),
-        ) {
-            let messages: Vec<Vec<u8>> = heads.into_iter().enumerate().map(|(k, (first, head, length))| {
-                let length = if is_edge[k] { edges[k] } else { length };
-                let mut message = vec![first];
-                message.extend(head.iter().map(|byte| byte % 5));
-                message.resize(length.max(message.len()), 0);
-                message.truncate(length);
-                message
-            }).collect();
-            prop_assert_eq!(come_back(&messages), messages);
-        }
-    }
-
     #[test]
-    fn a_long_message_frees_its_room_with_its_last_part() {
-        let mut queue = queue_of(&[2000]);
-        assert_eq!(queue.waiting(), 2032);
-        queue.next();
-        assert_eq!(queue.waiting(), 2032);
-        queue.next();
-        assert_eq!(queue.waiting(), 0);
+    fn the_size_is_what_a_stream_takes() {
+        let queue = queue_of(&[0, 5, 65_535]);
+        assert_eq!((queue.size(), queue.first_length()), (65_546, Some(0)));
+        let size: usize = [0, 5, 65_535].into_iter().map(size_of).sum();
+        assert_eq!(queue.size(), size);
     }
 
     #[test]
@@ -366,7 +290,6 @@ mod tests {
     #[test]
     fn a_queue_that_is_cleared_tells_all_tickets() {
         let mut queue = queue_of(&[3000, 1, 2]);
-        queue.next();
         let messages: Vec<_> = queue.clear().collect();
         let lengths: Vec<_> = messages
             .iter()

@@ -1,10 +1,11 @@
 //! Sending: messages wait, go out in bodies one after the other, and are settled when their own member delivers them.
 
-use crate::body::MOST_MESSAGE;
+use crate::body::{Reference, MOST_MESSAGE};
 use crate::config::{Plant, Time};
 use crate::event::{HandleError, Output, Unsent};
 use crate::member::Member;
 use crate::queue::{Load, Queue};
+use crate::streaming::Streaming;
 use muoswyld::answer::Outcome;
 use muoswyld::event::Event;
 use std::collections::VecDeque;
@@ -26,6 +27,8 @@ pub(crate) struct UnderWay {
 #[derive(Debug)]
 pub(crate) struct Sending {
     pub(crate) queue: Queue,
+    /// What goes beside the list and isn't named yet.
+    pub(crate) streaming: Streaming,
     /// A body that the node didn't take yet.
     ready: Option<Load>,
     /// The body that isn't known to be accepted.
@@ -48,6 +51,7 @@ impl Sending {
     pub(crate) fn new(queue: Queue) -> Sending {
         Sending {
             queue,
+            streaming: Streaming::default(),
             ready: None,
             under_way: None,
             control: None,
@@ -66,7 +70,8 @@ impl Sending {
 
     /// Whether something waits to be sent, or is under way.
     pub(crate) fn is_idle(&self) -> bool {
-        let none_waits = self.queue.is_empty() && self.control.is_none();
+        let none_waits =
+            self.queue.is_empty() && self.streaming.is_empty() && self.control.is_none();
         none_waits && self.ready.is_none() && self.under_way.is_none()
     }
 
@@ -75,6 +80,7 @@ impl Sending {
         let tickets = |load: &Load| load.tickets.len();
         let accepted: usize = self.accepted.iter().map(|(_, own)| tickets(own)).sum();
         self.queue.len()
+            + self.streaming.len()
             + self.ready.as_ref().map_or(0, tickets)
             + self.under_way.as_ref().map_or(0, |own| tickets(&own.load))
             + accepted
@@ -122,7 +128,10 @@ impl Member {
             return;
         };
         let sample = self.now.since(own.began);
-        if !self.is_sequencer() || sample > 0 {
+        // contents that are sent again take longer than a letter that is sent again
+        let is_of_contents = Reference::read(&own.load.body).is_some();
+        let counts = !is_of_contents || self.timers.round_trip.smooth().is_none();
+        if counts && (!self.is_sequencer() || sample > 0) {
             self.timers.round_trip.measure(sample, own.tries > 0);
         }
         self.sending.put_off = false;
@@ -139,7 +148,11 @@ impl Member {
     /// Gives the node the next body, if none is under way.
     pub(crate) fn send_next(&mut self) -> Option<()> {
         self.sending.is_paced = false;
-        if self.sending.under_way.is_some() || !self.is_member() {
+        if !self.is_member() {
+            return Some(());
+        }
+        if self.sending.under_way.is_some() {
+            self.stream_ahead();
             return Some(());
         }
         if self.sending.ready.is_none() {
@@ -150,10 +163,8 @@ impl Member {
             if self.is_sequencer() && self.is_too_fast() {
                 return Some(());
             }
-            // between two parts it would end their message
-            let is_amid = self.sending.queue.is_amid_message();
-            let control = self.sending.control.take_if(|_| !is_amid);
-            self.sending.ready = control.or_else(|| self.sending.queue.next());
+            let control = self.sending.control.take();
+            self.sending.ready = control.or_else(|| self.next_load());
         }
         let Some(load) = self.sending.ready.take() else {
             return Some(());
@@ -254,9 +265,10 @@ impl Member {
         }
         loads.extend(sending.ready.take());
         sending.control = None;
-        let mut unsent: Vec<(u64, Vec<u8>)> =
-            loads.into_iter().flat_map(Load::into_messages).collect();
-        unsent.extend(sending.queue.clear());
+        let loads = loads.into_iter();
+        let mut unsent: Vec<_> = loads.flat_map(|load| self.messages_of(load)).collect();
+        unsent.extend(self.take_unnamed());
+        unsent.extend(self.sending.queue.clear());
         unsent
     }
 
@@ -267,6 +279,7 @@ impl Member {
         let unknown: Vec<u64> = accepted.chain(own).flatten().collect();
         let ready = self.sending.ready.take().map(|load| load.tickets);
         let mut unsent = ready.unwrap_or_default();
+        unsent.extend(self.sending.streaming.clear());
         unsent.extend(self.sending.queue.clear().map(|(ticket, _)| ticket));
         let give = |result| move |ticket| Output::Settled { ticket, result };
         let unknown = unknown.into_iter().map(give(Err(Unsent::Unknown)));

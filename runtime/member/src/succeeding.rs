@@ -1,7 +1,7 @@
 //! Asking for the end of a list: who may, with which voters next, and by itself before lives or numbers run out.
 
 use crate::config::{Limits, Plant, Time};
-use crate::ending_list::{firsts_of, Ends};
+use crate::ends::{firsts_of, Ends};
 use crate::event::{HandleError, Next, Notice};
 use crate::member::Member;
 use crate::queue::Load;

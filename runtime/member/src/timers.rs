@@ -2,7 +2,7 @@
 
 use crate::config::Time;
 use crate::member::Member;
-use crate::packet::{kind_of, taken_of, Kind};
+use crate::packet::{front_of, kind_of, taken_of, Front, Kind};
 use muoswyld::answer::{Outcome, Role};
 use muoswyld::event::Event;
 use muoswyld::names::{Name, Stamp};
@@ -39,7 +39,7 @@ impl RoundTrip {
     }
 
     /// After which time something is sent again.
-    fn resend(&self, first: u64, most: u64) -> u64 {
+    pub(crate) fn resend(&self, first: u64, most: u64) -> u64 {
         let (smooth, vary) = self.measured.unwrap_or((first, 0));
         smooth
             .saturating_add(vary.saturating_mul(4))
@@ -140,9 +140,13 @@ impl Timers {
 impl Member {
     /// Looks at a packet that goes out: whether it reports how far this member took the list, or begins a ballot.
     pub(crate) fn note_sent(&mut self, packet: &[u8]) {
+        if let Some((Front::Accepted, _)) = front_of(packet) {
+            self.contents.told();
+        }
         match kind_of(packet) {
             Some(Kind::Report) => {
                 self.timers.reported = taken_of(packet).unwrap_or(self.timers.reported);
+                self.contents.reported();
             }
             Some(Kind::Invite) => self.invited(packet),
             _ => {}
@@ -201,7 +205,8 @@ impl Member {
         self.standing.role == Role::Member && taken >= quarter
     }
 
-    fn period(&self, tries: u32) -> u64 {
+    /// After which time something is asked again that was asked so often.
+    pub(crate) fn period(&self, tries: u32) -> u64 {
         let most = self.settings.most_resend;
         let first = self.settings.first_resend;
         let resend = self.timers.round_trip.resend(first, most);
@@ -226,7 +231,8 @@ impl Member {
 
     /// Whether a tick is due.
     pub(crate) fn wants_tick(&self) -> bool {
-        self.hearing.group.is_some() && (self.now >= self.tick_at() || self.is_report_due())
+        let is_due = self.is_report_due() || self.is_report_of_bytes_due();
+        self.hearing.group.is_some() && (self.now >= self.tick_at() || is_due)
     }
 
     /// Ticks.
@@ -247,6 +253,8 @@ impl Member {
         self.counts.ticks += 1;
         let outcome = self.step(&Event::Tick, None)?;
         self.timers.reported = self.timers.reported.max(self.standing.taken);
+        self.contents.reported();
+        self.contents.told();
         if self.standing.role != Role::Member {
             self.sending.put_off = matches!(outcome, Outcome::PutOff { .. });
         }

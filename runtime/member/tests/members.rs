@@ -116,6 +116,8 @@ fn settings_that_are_none_are_refused() {
         (with(|s| s.founding.window = 0), StartError::Window),
         (with(|s| s.founding.window = 1009), StartError::Window),
         (with(|s| s.founding.pb_up_to = 1025), StartError::PbUpTo),
+        (with(|s| s.most_streamed = 0x3_ffff), StartError::Streamed),
+        (with(|s| s.most_streamed = 0x40_0001), StartError::Streamed),
         (with(|s| s.datagram = 1231), StartError::Datagram),
         (with(|s| s.most_waiting = 65_566), StartError::Waiting),
         (with(|s| s.deliveries = 0), StartError::Deliveries),
@@ -266,10 +268,10 @@ fn an_idle_member_ticks_slowly_and_one_that_waits_doubles() {
 #[test]
 fn a_sequencer_sends_one_body_a_turn_below_half_of_the_window() {
     let mut first = member("0", founding("0,1", 0, 16));
-    for ticket in 0..40 {
-        send(&mut first, 1, ticket, &[0; 1000]);
-    }
+    send(&mut first, 1, 20, &[0; 1000]);
     for turn in 0..20 {
+        // it waits for the next turn, since one has gone out in this one
+        send(&mut first, 1, turn, &[0; 1000]);
         assert_eq!(first.info().counts.bodies_sent, (turn + 1).min(7), "{turn}");
         released(&mut first, 1);
         tick(&mut first, 1);

@@ -184,6 +184,7 @@ fn failures_status(info: &FailuresInfo) -> Value {
         "policy": info.policy,
         "suspected": names(&info.suspects),
         "refused": names(&info.refused),
+        "refused-members": names(&info.refused_members),
         "stopped": names(&info.stopped),
         "votes": info.votes,
         "why-no-vote": info.why_no_vote,

@@ -4,9 +4,8 @@ use crate::exit::{Fault, CONFIG, SYSTEM, TRY_AGAIN};
 use crate::key;
 use crate::options::{resolve, Run};
 use clap::ValueEnum;
-use muoswyld_group::{Config, Facts, Group, LaterList, Name, Policy, StateError};
+use muoswyld_group::{latest_life, Config, Facts, Group, NextLife, Policy, StateError};
 use serde::Deserialize;
-use std::cmp::Ordering;
 use std::io::ErrorKind;
 use std::net::SocketAddr;
 use std::time::Duration;
@@ -111,10 +110,7 @@ impl Run {
 
     /// The name that is said, or the next life of its place that was never begun, and the list in which it begins: as the folder of state
     /// says, and what members know.
-    pub(crate) fn name_to_run(
-        &self,
-        facts: Option<&Facts>,
-    ) -> Result<(Name, Option<LaterList>), Fault> {
+    pub(crate) fn name_to_run(&self, facts: Option<&Facts>) -> Result<NextLife, Fault> {
         let name = self.name.ok_or_else(|| missing("name"))?;
         if !self.next_life {
             return Ok((name, facts.and_then(|facts| facts.later)));
@@ -122,29 +118,7 @@ impl Run {
         let folder = self.state.as_ref();
         let folder = folder.ok_or_else(|| Fault::of(CONFIG, "--next-life wants --state, too"))?;
         let own = muoswyld_group::next_life(folder, name.place());
-        let Some(facts) = facts else {
-            return own.map_err(|error| Fault::of(CONFIG, error));
-        };
-        let none_left = || Fault::of(CONFIG, "the place has no life left");
-        let known = facts.next.ok_or_else(none_left);
-        let (next, list) = match own {
-            Ok(own) => own,
-            // a folder whose lives are used up: a later list has others
-            Err(StateError::Begun { .. }) if facts.later.is_some() => {
-                return Ok((known?, facts.later));
-            }
-            Err(error) => return Err(Fault::of(CONFIG, error)),
-        };
-        let generation = list.map_or(0, |list| list.generation);
-        match facts.generation().cmp(&generation) {
-            Ordering::Less => Ok((next, list)),
-            Ordering::Equal if facts.later != list => {
-                let line = "the folder of state has another list than the other members";
-                Err(Fault::of(CONFIG, line))
-            }
-            Ordering::Equal => Ok((next.max(known?), list)),
-            Ordering::Greater => Ok((known?, facts.later)),
-        }
+        latest_life(own, facts).map_err(|error| Fault::of(CONFIG, error))
     }
 
     /// With what is said of who has stopped.

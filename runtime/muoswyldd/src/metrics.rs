@@ -164,6 +164,26 @@ fn values(info: &Info) -> Vec<Value> {
             "resets that the member began by itself",
             counts.resets,
         ),
+        (
+            "muoswyld_streamed_bytes_total",
+            "bytes of contents that went out beside the list",
+            counts.bytes_streamed,
+        ),
+        (
+            "muoswyld_asked_bytes_total",
+            "bytes of contents that hadn't come, and were asked for",
+            counts.bytes_asked,
+        ),
+        (
+            "muoswyld_answered_bytes_total",
+            "bytes of contents that others asked for, and that were sent",
+            counts.bytes_answered,
+        ),
+        (
+            "muoswyld_held_letters",
+            "letters that wait for contents",
+            info.held as u64,
+        ),
     ]
 }
 
@@ -180,6 +200,11 @@ fn failure_values(info: &FailuresInfo) -> Vec<Value> {
             "muoswyld_refused_names",
             "names that this place has refused",
             info.refused.len() as u64,
+        ),
+        (
+            "muoswyld_refused_members",
+            "members that any voter has refused, which hold off the end of the list",
+            info.refused_members.len() as u64,
         ),
         (
             "muoswyld_stopped_names",

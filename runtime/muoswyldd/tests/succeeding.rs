@@ -164,19 +164,16 @@ fn a_member_is_killed_amid_an_end(test: &str, policy: &[&str]) {
 }
 
 #[test]
-#[ignore = "not mended yet: after a kill amid the end of a list a wait may last for ever"]
 fn a_member_is_killed_amid_an_end_and_the_others_are_told() {
     a_member_is_killed_amid_an_end("told-succeed", &TOLD);
 }
 
 #[test]
-#[ignore = "not mended yet: after a kill amid the end of a list a wait may last for ever"]
 fn a_member_is_killed_amid_an_end_by_echo() {
     a_member_is_killed_amid_an_end("echo-succeed", &ECHO);
 }
 
 #[test]
-#[ignore = "not mended yet: after a kill amid the end of a list a wait may last for ever"]
 fn a_member_is_killed_amid_an_end_by_lease() {
     a_member_is_killed_amid_an_end("lease-succeed", &LEASE);
 }
@@ -247,4 +244,39 @@ fn a_list_ends_by_the_command_and_says_why_not() {
     assert_eq!(found, (&"3".into(), &1.into(), &50.into()));
     cluster.ask("3", "send joined");
     until(|| cluster.texts("0").contains(&"joined".to_string()));
+}
+
+/// A place that is to join the first list isn't started before that is closed. It learns that, and begins in the latest list.
+fn a_joiner_comes_too_late(test: &str, policy: &[&str]) {
+    let mut cluster = Cluster::new(test, policy);
+    cluster.start_all();
+    succeed(&cluster, "1", "window 99");
+    for place in ["0", "1", "2"] {
+        let state = format!("state{place}");
+        until(|| !files_of(&cluster, &state).contains(&"life".to_string()));
+    }
+    let words = [&["found".to_string()][..], &cluster.words("3")].concat();
+    let words: Vec<&str> = words.iter().map(String::as_str).collect();
+    assert!(run(&words).status.success());
+    cluster.start("3", &[]);
+    assert_eq!(cluster.status("3"), Some(69));
+    let log = cluster.log("3");
+    assert!(log.contains("its list has ended"), "{log}");
+    // the first life was begun in the first list
+    cluster.start("3", &["--next-life"]);
+    cluster.ask("3", "send late");
+    let status = cluster.ask("3", "status");
+    let found = (&status["name"], &status["generation"], &status["window"]);
+    assert_eq!(found, (&"3".into(), &1.into(), &99.into()));
+    until(|| cluster.texts("0").contains(&"late".to_string()));
+}
+
+#[test]
+fn a_joiner_of_a_list_that_is_closed_is_told_so() {
+    a_joiner_comes_too_late("told-late", &TOLD);
+}
+
+#[test]
+fn a_joiner_of_a_list_that_is_closed_is_told_so_by_echo() {
+    a_joiner_comes_too_late("echo-late", &ECHO);
 }

@@ -3,13 +3,21 @@
 use muoswyld_member::{Name, Names, Position};
 use thiserror::Error;
 
-/// A session: the position at which it was opened in a group's list.
+/// A session: whose group it is of, and the position at which it was opened there. It goes on over the ends of the group's lists.
 #[derive(Clone, Copy, Debug, PartialEq, Eq, PartialOrd, Ord, Hash)]
 pub struct SessionId {
-    /// The group's id.
+    /// The id of the list in which the member began that opened it.
     pub list: u64,
     /// Where the session was opened.
     pub at: Position,
+}
+
+/// An entry in words: the number of a later list has its generation before it.
+fn shown(at: &Position) -> String {
+    match at.generation {
+        0 => at.number.to_string(),
+        generation => format!("{generation}.{}", at.number),
+    }
 }
 
 /// What a caller asks for. Each goes through the group's list.
@@ -77,20 +85,20 @@ pub enum Ended {
     #[error("all replicas that had the state have stopped or left: it is lost, and nobody begins with an empty one by itself")]
     Lost,
     /// The replicas differ, and this one's state isn't the one that counts.
-    #[error("at entry {number} this replica has the digest {own:016x}, and the one that counts is {other:016x}")]
+    #[error("at entry {} this replica has the digest {own:016x}, and the one that counts is {other:016x}", shown(.at))]
     Differs {
-        /// The number of the entry after which states were compared.
-        number: u32,
+        /// The entry after which states were compared.
+        at: Position,
         /// This replica's digest.
         own: u64,
         /// The digest of most replicas, or of the lowest name among as many.
         other: u64,
     },
     /// The snapshot that was sent isn't one, or its digest isn't the one that was said.
-    #[error("the snapshot for entry {number} is spoilt at chunk {chunk}")]
+    #[error("the snapshot for entry {} is spoilt at chunk {chunk}", shown(.at))]
     Spoilt {
-        /// The number of the Join that it is for.
-        number: u32,
+        /// The Join that it is for.
+        at: Position,
         /// The chunk.
         chunk: u32,
     },
@@ -102,17 +110,9 @@ pub enum Ended {
         /// How many may.
         most: usize,
     },
-    /// The member's first delivery is neither the founders' view nor its own join.
-    #[error("the member's first delivery is neither the founders' view nor its own join")]
+    /// The member's first delivery is neither the founders' view of the group's first list nor its own join.
+    #[error("the member's first delivery is neither the founders' view of the group's first list nor its own join")]
     NoBeginning,
-    /// The group's list ended, and another one follows it: the state of a replica is of one list.
-    #[error(
-        "the group's list ended at entry {number}, and a replica doesn't go on in the next one"
-    )]
-    ListEnded {
-        /// The entry that ended the list.
-        number: u32,
-    },
 }
 
 /// What is told for logs.
@@ -130,7 +130,7 @@ pub enum Notice {
         /// The replica.
         name: Name,
         /// After which entry.
-        number: u32,
+        at: Position,
     },
 }
 
@@ -173,8 +173,8 @@ pub struct Status {
     pub sessions: usize,
     /// How many chunks of the state it was sent, while it waits for that.
     pub chunks: u32,
-    /// The number of the last entry after which states were compared, and this replica's digest there.
-    pub checked: Option<(u32, u64)>,
+    /// The last entry after which states were compared, and this replica's digest there.
+    pub checked: Option<(Position, u64)>,
     /// Messages that are none of a replica's.
     pub foreign: u64,
 }
@@ -197,14 +197,20 @@ pub enum Plant {
     EndsOldestSession,
     ExpiredIsNew,
     ReadsEarly,
+    ChunksByNumber,
+    ChecksByNumber,
+    ForgetsSessions,
+    ForgetsParts,
+    TransfersAnew,
+    SendsAnew,
 }
 
 /// What a replica is told at its start. All replicas of a group are told the same limits.
 #[derive(Clone, Debug)]
 pub struct Settings {
-    /// Its member's name.
+    /// Its member's name, in the list in which it begins.
     pub name: Name,
-    /// The group's id.
+    /// The id of that list.
     pub list: u64,
     /// How many sessions are open at most: one more ends the one that was used least recently.
     pub most_sessions: u32,
@@ -223,7 +229,7 @@ pub struct Settings {
 }
 
 impl Settings {
-    /// The settings of a member of a group with this id, and the usual limits.
+    /// The settings of a member that begins in a list with this id, and the usual limits.
     pub fn new(name: Name, list: u64) -> Settings {
         Settings {
             name,

@@ -4,6 +4,7 @@ use crate::checks::{Checks, Found};
 use crate::event::{Answer, Ended, Notice, Output, Plant, SessionId, Settings};
 use crate::machine::StateMachine;
 use crate::message::{read, Chunk, Message};
+use crate::roll::{key_of, next_name};
 use crate::sessions::Turn;
 use crate::snapshot::{Cutter, State};
 use muoswyld_member::{Delivery, Name, Names, Position};
@@ -12,21 +13,23 @@ use std::collections::{BTreeMap, VecDeque};
 /// A replica that has the state.
 pub(crate) struct Holder<S: StateMachine> {
     pub(crate) state: State<S>,
+    /// Its member's name in the list of the last delivery that was applied.
+    pub(crate) name: Name,
     /// The position of the last delivery that was applied.
     pub(crate) at: Position,
     pub(crate) checks: Checks,
     /// Messages that are none of a replica's.
     pub(crate) foreign: u64,
     settings: Settings,
-    /// The number of the last entry after which states were compared.
-    checked: u32,
+    /// The last entry after which states were compared.
+    checked: Position,
     /// Whether anything was changed since then, but for chunks that were sent: what is sent to compare states isn't compared again.
     is_changed: bool,
     is_joiner: bool,
-    /// The snapshots for the joiners that wait, by the numbers of their Joins.
-    cutters: BTreeMap<u32, Cutter<S::Snapshot>>,
+    /// The snapshots for the joiners that wait, by their Joins.
+    cutters: BTreeMap<Position, Cutter<S::Snapshot>>,
     /// The Join that it serves.
-    serving: Option<u32>,
+    serving: Option<Position>,
     /// The Join whose snapshot is taken late, by a planted defect.
     late: Option<Position>,
     outputs: VecDeque<Output>,
@@ -35,13 +38,19 @@ pub(crate) struct Holder<S: StateMachine> {
 impl<S: StateMachine> Holder<S> {
     /// One whose state is that at a position.
     pub(crate) fn new(settings: Settings, state: State<S>, at: Position) -> Holder<S> {
+        let checks = Checks::new(settings.plant);
         Holder {
             state,
+            name: settings.name,
             at,
-            checks: Checks::default(),
+            checks,
             foreign: 0,
             settings,
-            checked: 0,
+            checked: Position {
+                generation: 0,
+                number: 0,
+                index: 0,
+            },
             is_changed: false,
             is_joiner: false,
             cutters: BTreeMap::new(),
@@ -56,8 +65,8 @@ impl<S: StateMachine> Holder<S> {
         let digest = state.digest(settings.plant);
         let holders = state.roll.holders;
         let mut holder = Holder::new(settings, state, at);
-        holder.checks.begin(at.number, digest, holders);
-        holder.checked = at.number;
+        holder.checks.begin(at, digest, holders);
+        holder.checked = at;
         holder.is_joiner = true;
         holder
     }
@@ -75,9 +84,9 @@ impl<S: StateMachine> Holder<S> {
     pub(crate) fn apply(&mut self, delivery: Delivery) -> Result<Option<Answer>, Ended> {
         let at = delivery.at();
         let is_late = self.is_joiner && self.settings.has(Plant::ChecksAnotherNumber);
-        let due = self.due(at.number);
-        if let (Some(number), false) = (due, is_late) {
-            self.check(number);
+        let due = self.due(at);
+        if let (Some(entry), false) = (due, is_late) {
+            self.check(entry);
         }
         let answer = match delivery {
             Delivery::Joined { name, .. } => {
@@ -93,47 +102,70 @@ impl<S: StateMachine> Holder<S> {
                 None
             }
             Delivery::Message { from, message, .. } => self.message(at, from, &message)?,
-            Delivery::Succeeded { at, .. } => {
-                let number = at.number;
-                return Err(Ended::ListEnded { number });
+            Delivery::Succeeded { members, .. } => {
+                self.succeed(members, at)?;
+                None
             }
         };
-        if let (Some(number), true) = (due, is_late) {
-            self.check(number);
+        if let (Some(entry), true) = (due, is_late) {
+            self.check(entry);
         }
         self.at = at;
         self.serve();
         Ok(answer)
     }
 
-    /// The number of an entry after which states are to be compared, if this is the first delivery behind it.
-    fn due(&self, number: u32) -> Option<u32> {
+    /// The entry after which states are to be compared, if this is the first delivery behind it.
+    fn due(&self, at: Position) -> Option<Position> {
         let every = self.state.check_every;
-        let last = number.saturating_sub(1) / every * every;
-        (self.is_changed && last > self.checked).then_some(last)
+        let number = at.number.saturating_sub(1) / every * every;
+        let last = Position {
+            number,
+            index: 0,
+            ..at
+        };
+        (self.is_changed && number > 0 && last > self.checked).then_some(last)
     }
 
-    fn check(&mut self, number: u32) {
+    fn check(&mut self, at: Position) {
         let digest = self.state.digest(self.settings.plant);
-        self.say(number, digest);
+        self.say(at, digest);
     }
 
-    fn say(&mut self, number: u32, digest: u64) {
-        self.checked = number;
+    fn say(&mut self, at: Position, digest: u64) {
+        self.checked = at;
         self.is_changed = false;
-        self.checks.begin(number, digest, self.state.roll.holders);
-        self.send(Message::Digest { number, digest });
+        self.checks.begin(at, digest, self.state.roll.holders);
+        self.send(Message::Digest { at, digest });
+    }
+
+    /// The list has ended, with these members: all goes on in the next one, where they have other names. What is under way there comes again.
+    fn succeed(&mut self, members: Names, at: Position) -> Result<(), Ended> {
+        self.set_members(members)?;
+        self.name = next_name(self.name);
+        let (state, plant) = (&mut self.state, self.settings.plant);
+        state.roll.succeed();
+        match plant {
+            Some(Plant::ForgetsParts) => state.parts.keep(Names::nobody()),
+            _ => state.parts.succeed(),
+        }
+        if plant == Some(Plant::ForgetsSessions) {
+            state.sessions.forget();
+        }
+        self.checks.succeed(members);
+        self.check(at);
+        Ok(())
     }
 
     fn look(&mut self, found: Vec<Found>) -> Result<(), Ended> {
         for found in found {
             match found {
-                Found::Other(name, _) if name == self.settings.name => {}
-                Found::Other(name, number) => self
+                Found::Other(name, _) if name == self.name => {}
+                Found::Other(name, at) => self
                     .outputs
-                    .push_back(Output::Told(Notice::OtherDiffers { name, number })),
-                Found::Own { number, own, other } => {
-                    return Err(Ended::Differs { number, own, other });
+                    .push_back(Output::Told(Notice::OtherDiffers { name, at })),
+                Found::Own { at, own, other } => {
+                    return Err(Ended::Differs { at, own, other });
                 }
             }
         }
@@ -141,13 +173,14 @@ impl<S: StateMachine> Holder<S> {
     }
 
     fn join(&mut self, name: Name, at: Position) {
-        self.state.roll.join(name, at.number);
-        let cutter = self.state.cut(at, self.settings.plant);
-        self.say(at.number, cutter.digest);
+        let plant = self.settings.plant;
+        self.state.roll.join(name, at);
+        let cutter = self.state.cut(at, plant);
+        self.say(at, cutter.digest);
         if self.settings.has(Plant::SnapshotIsLate) {
             self.late = Some(at);
         } else {
-            self.cutters.insert(at.number, cutter);
+            self.cutters.insert(key_of(at, plant), cutter);
         }
     }
 
@@ -156,9 +189,9 @@ impl<S: StateMachine> Holder<S> {
         let state = &mut self.state;
         state.roll.set_members(members);
         state.parts.keep(members);
-        let transfers = &state.roll.transfers;
+        let (transfers, plant) = (&state.roll.transfers, self.settings.plant);
         self.cutters
-            .retain(|number, _| transfers.iter().any(|one| one.number == *number));
+            .retain(|at, _| transfers.iter().any(|one| key_of(one.at, plant) == *at));
         let found = self.checks.look(members);
         self.look(found)
     }
@@ -184,9 +217,9 @@ impl<S: StateMachine> Holder<S> {
                 let request = state.parts.part(from, index, is_last, share);
                 request.and_then(|request| self.request(at, read(&request)?))
             }
-            Some(Message::Digest { number, digest }) => {
+            Some(Message::Digest { at, digest }) => {
                 let members = state.roll.members;
-                let found = self.checks.said(from, number, digest, members);
+                let found = self.checks.said(from, at, digest, members);
                 self.look(found)?;
                 None
             }
@@ -194,16 +227,16 @@ impl<S: StateMachine> Holder<S> {
                 self.chunk(&chunk);
                 None
             }
-            Some(Message::Resume { number, next }) => {
-                state.roll.resume(from, number, next);
+            Some(Message::Resume { to, next }) => {
+                state.roll.resume(from, to, next);
                 None
             }
-            Some(Message::Waiting) => None,
+            Some(Message::Waiting(_)) => None,
             Some(request) => self.request(at, request),
         };
         if let Some(join) = self.late.take() {
             let cutter = self.state.cut(join, self.settings.plant);
-            self.cutters.insert(join.number, cutter);
+            self.cutters.insert(join, cutter);
         }
         Ok(answer)
     }
@@ -229,10 +262,10 @@ impl<S: StateMachine> Holder<S> {
                 Some(sessions.command(at, turn, plant, || machine.apply(at, command)))
             }
             Message::Barrier => Some(Answer::Reached(at)),
-            Message::Open => {
-                sessions.open(at);
-                let list = self.settings.list;
-                Some(Answer::Opened(SessionId { list, at }))
+            Message::Open(list) => {
+                let session = SessionId { list, at };
+                sessions.open(session);
+                Some(Answer::Opened(session))
             }
             Message::Close(session) => Some(match sessions.close(session) {
                 true => Answer::Closed,
@@ -243,8 +276,9 @@ impl<S: StateMachine> Holder<S> {
     }
 
     fn chunk(&mut self, chunk: &Chunk) {
-        if self.state.roll.count(chunk) && chunk.is_last {
-            self.cutters.remove(&chunk.number);
+        let plant = self.settings.plant;
+        if self.state.roll.count(chunk, plant) && chunk.is_last {
+            self.cutters.remove(&key_of(chunk.to, plant));
         }
     }
 
@@ -253,15 +287,16 @@ impl<S: StateMachine> Holder<S> {
         let roll = &self.state.roll;
         let (Some(first), true) = (
             roll.transfers.front().copied(),
-            roll.source == Some(self.settings.name),
+            roll.source == Some(self.name),
         ) else {
             self.serving = None;
             return;
         };
-        let Some(cutter) = self.cutters.get_mut(&first.number) else {
+        let key = key_of(first.at, self.settings.plant);
+        let Some(cutter) = self.cutters.get_mut(&key) else {
             return;
         };
-        if self.serving.replace(first.number) != Some(first.number) {
+        if self.serving.replace(first.at) != Some(first.at) {
             self.outputs.push_back(Output::Told(Notice::Serves {
                 to: first.to,
                 chunk: first.next,
@@ -276,8 +311,7 @@ impl<S: StateMachine> Holder<S> {
                 break;
             };
             let chunk = Chunk {
-                to: first.to,
-                number: first.number,
+                to: first.at,
                 index,
                 digest,
                 is_last,

@@ -1,5 +1,6 @@
 //! The messages of replicas (docs/REPLICAS.md). Numbers have the most significant byte first.
 
+use crate::event::SessionId;
 use muoswyld_member::{Name, Position};
 
 /// The most bytes of a message: it goes in one body, so that nobody is given the end of one that began before its join.
@@ -11,7 +12,7 @@ const PART_HEAD: usize = 4;
 /// The most bytes of a part's share.
 pub(crate) const SHARE: usize = MOST_MESSAGE - PART_HEAD;
 /// The bytes before a chunk's own.
-const CHUNK_HEAD: usize = 19;
+const CHUNK_HEAD: usize = 22;
 /// The bytes of each chunk but the last.
 pub(crate) const CHUNK: usize = MOST_MESSAGE - CHUNK_HEAD;
 
@@ -29,10 +30,8 @@ const CHUNK_KIND: u8 = b'T';
 /// A piece of a snapshot.
 #[derive(Clone, Copy, Debug, PartialEq, Eq)]
 pub(crate) struct Chunk<'a> {
-    /// The joiner that it is for.
-    pub(crate) to: Name,
-    /// The number of its Join.
-    pub(crate) number: u32,
+    /// The Join of the joiner that it is for.
+    pub(crate) to: Position,
     /// Which piece it is, from 0.
     pub(crate) index: u32,
     /// The digest of the state at the Join.
@@ -49,20 +48,22 @@ pub(crate) enum Message<'a> {
     Command(&'a [u8]),
     Barrier,
     SessionCommand {
-        session: Position,
+        session: SessionId,
         sequence: u64,
         answered: u64,
         command: &'a [u8],
     },
     Digest {
-        number: u32,
+        at: Position,
         digest: u64,
     },
-    Close(Position),
-    Waiting,
-    Open,
+    Close(SessionId),
+    /// The sender's own Join.
+    Waiting(Position),
+    /// The id of the list in which the sender began.
+    Open(u64),
     Resume {
-        number: u32,
+        to: Position,
         next: u32,
     },
     Part {
@@ -122,6 +123,21 @@ impl<'a> Reader<'a> {
         })
     }
 
+    /// The position of an entry.
+    pub(crate) fn entry(&mut self) -> Option<Position> {
+        let (generation, number) = (self.u32()?, self.u32()?);
+        Some(Position {
+            generation,
+            number,
+            index: 0,
+        })
+    }
+
+    pub(crate) fn session(&mut self) -> Option<SessionId> {
+        let (list, at) = (self.u64()?, self.position()?);
+        Some(SessionId { list, at })
+    }
+
     pub(crate) fn bytes(&mut self, length: usize) -> Option<&'a [u8]> {
         let (bytes, rest) = self.0.split_at_checked(length)?;
         self.0 = rest;
@@ -141,7 +157,7 @@ pub(crate) fn read(message: &[u8]) -> Option<Message<'_>> {
     let message = match kind {
         COMMAND => Message::Command(rest.0),
         SESSION_COMMAND => Message::SessionCommand {
-            session: rest.position()?,
+            session: rest.session()?,
             sequence: rest.u64()?,
             answered: rest.u64()?,
             command: rest.0,
@@ -152,8 +168,7 @@ pub(crate) fn read(message: &[u8]) -> Option<Message<'_>> {
             share: rest.0,
         },
         CHUNK_KIND => Message::Chunk(Chunk {
-            to: rest.name()?,
-            number: rest.u32()?,
+            to: rest.entry()?,
             index: rest.u32()?,
             digest: rest.u64()?,
             is_last: rest.flag()?,
@@ -168,15 +183,15 @@ pub(crate) fn read(message: &[u8]) -> Option<Message<'_>> {
 fn read_short(kind: u8, mut rest: Reader) -> Option<Message> {
     let message = match kind {
         BARRIER => Message::Barrier,
-        OPEN => Message::Open,
-        WAITING => Message::Waiting,
-        CLOSE => Message::Close(rest.position()?),
+        OPEN => Message::Open(rest.u64()?),
+        WAITING => Message::Waiting(rest.entry()?),
+        CLOSE => Message::Close(rest.session()?),
         RESUME => Message::Resume {
-            number: rest.u32()?,
+            to: rest.entry()?,
             next: rest.u32()?,
         },
         DIGEST => Message::Digest {
-            number: rest.u32()?,
+            at: rest.entry()?,
             digest: rest.u64()?,
         },
         _ => return None,
@@ -187,9 +202,20 @@ fn read_short(kind: u8, mut rest: Reader) -> Option<Message> {
 
 /// Adds a position to bytes.
 pub(crate) fn put_position(to: &mut Vec<u8>, at: Position) {
+    put_entry(to, at);
+    to.extend(at.index.to_be_bytes());
+}
+
+/// Adds the position of an entry to bytes.
+pub(crate) fn put_entry(to: &mut Vec<u8>, at: Position) {
     to.extend(at.generation.to_be_bytes());
     to.extend(at.number.to_be_bytes());
-    to.extend(at.index.to_be_bytes());
+}
+
+/// Adds a session's id to bytes.
+pub(crate) fn put_session(to: &mut Vec<u8>, session: SessionId) {
+    to.extend(session.list.to_be_bytes());
+    put_position(to, session.at);
 }
 
 impl Message<'_> {
@@ -202,8 +228,14 @@ impl Message<'_> {
                 to.extend(*command);
             }
             Message::Barrier => to.push(BARRIER),
-            Message::Open => to.push(OPEN),
-            Message::Waiting => to.push(WAITING),
+            Message::Open(list) => {
+                to.push(OPEN);
+                to.extend(list.to_be_bytes());
+            }
+            Message::Waiting(at) => {
+                to.push(WAITING);
+                put_entry(&mut to, *at);
+            }
             Message::SessionCommand {
                 session,
                 sequence,
@@ -211,23 +243,23 @@ impl Message<'_> {
                 command,
             } => {
                 to.push(SESSION_COMMAND);
-                put_position(&mut to, *session);
+                put_session(&mut to, *session);
                 to.extend(sequence.to_be_bytes());
                 to.extend(answered.to_be_bytes());
                 to.extend(*command);
             }
             Message::Close(session) => {
                 to.push(CLOSE);
-                put_position(&mut to, *session);
+                put_session(&mut to, *session);
             }
-            Message::Digest { number, digest } => {
+            Message::Digest { at, digest } => {
                 to.push(DIGEST);
-                to.extend(number.to_be_bytes());
+                put_entry(&mut to, *at);
                 to.extend(digest.to_be_bytes());
             }
-            Message::Resume { number, next } => {
+            Message::Resume { to: join, next } => {
                 to.push(RESUME);
-                to.extend(number.to_be_bytes());
+                put_entry(&mut to, *join);
                 to.extend(next.to_be_bytes());
             }
             Message::Part {
@@ -248,8 +280,8 @@ impl Message<'_> {
 
 impl Chunk<'_> {
     fn put(&self, to: &mut Vec<u8>) {
-        to.extend([CHUNK_KIND, self.to.byte()]);
-        to.extend(self.number.to_be_bytes());
+        to.push(CHUNK_KIND);
+        put_entry(to, self.to);
         to.extend(self.index.to_be_bytes());
         to.extend(self.digest.to_be_bytes());
         to.push(u8::from(self.is_last));
@@ -269,35 +301,50 @@ mod tests {
             number: 0x0102_0304,
             index: 5,
         };
+        let session = SessionId { list: 0x0c0d, at };
+        let entry = |generation, number| Position {
+            generation,
+            number,
+            index: 0,
+        };
         let cases: Vec<(Message, Vec<u8>)> = vec![
             (Message::Command(b"xy"), b"Axy".to_vec()),
             (Message::Barrier, b"B".to_vec()),
             (
                 Message::SessionCommand {
-                    session: at,
+                    session,
                     sequence: 2,
                     answered: 1,
                     command: b"x",
                 },
-                b"C\0\0\0\x06\x01\x02\x03\x04\0\0\0\x05\0\0\0\0\0\0\0\x02\0\0\0\0\0\0\0\x01x"
+                b"C\0\0\0\0\0\0\x0c\x0d\0\0\0\x06\x01\x02\x03\x04\0\0\0\x05\0\0\0\0\0\0\0\x02\0\0\0\0\0\0\0\x01x"
                     .to_vec(),
             ),
             (
                 Message::Digest {
-                    number: 9,
+                    at: entry(3, 9),
                     digest: 0x0a0b,
                 },
-                b"D\0\0\0\x09\0\0\0\0\0\0\x0a\x0b".to_vec(),
+                b"D\0\0\0\x03\0\0\0\x09\0\0\0\0\0\0\x0a\x0b".to_vec(),
             ),
             (
-                Message::Close(at),
-                b"E\0\0\0\x06\x01\x02\x03\x04\0\0\0\x05".to_vec(),
+                Message::Close(session),
+                b"E\0\0\0\0\0\0\x0c\x0d\0\0\0\x06\x01\x02\x03\x04\0\0\0\x05".to_vec(),
             ),
-            (Message::Waiting, b"N".to_vec()),
-            (Message::Open, b"O".to_vec()),
             (
-                Message::Resume { number: 8, next: 3 },
-                b"R\0\0\0\x08\0\0\0\x03".to_vec(),
+                Message::Waiting(entry(1, 7)),
+                b"N\0\0\0\x01\0\0\0\x07".to_vec(),
+            ),
+            (
+                Message::Open(0x0102),
+                b"O\0\0\0\0\0\0\x01\x02".to_vec(),
+            ),
+            (
+                Message::Resume {
+                    to: entry(2, 8),
+                    next: 3,
+                },
+                b"R\0\0\0\x02\0\0\0\x08\0\0\0\x03".to_vec(),
             ),
             (
                 Message::Part {
@@ -309,14 +356,13 @@ mod tests {
             ),
             (
                 Message::Chunk(Chunk {
-                    to: Name::of_byte(0x12),
-                    number: 7,
+                    to: entry(4, 7),
                     index: 1,
                     digest: 2,
                     is_last: false,
                     bytes: b"c",
                 }),
-                b"T\x12\0\0\0\x07\0\0\0\x01\0\0\0\0\0\0\0\x02\0c".to_vec(),
+                b"T\0\0\0\x04\0\0\0\x07\0\0\0\x01\0\0\0\0\0\0\0\x02\0c".to_vec(),
             ),
         ];
         for (message, bytes) in cases {
@@ -331,15 +377,17 @@ mod tests {
             &b""[..],
             b"x",
             b"Bx",
-            b"Ox",
-            b"Nx",
-            b"E\0\0\0\0\0\0\0",
-            b"E\0\0\0\0\0\0\0\0\0",
+            b"O\0\0\0\0\0\0\0",
+            b"O\0\0\0\0\0\0\0\0\0",
+            b"N\0\0\0\0\0\0\0",
+            b"N\0\0\0\0\0\0\0\0\0",
+            b"E\0\0\0\0\0\0\0\0\0\0\0\0\0\0\0\0\0\0\0",
+            b"E\0\0\0\0\0\0\0\0\0\0\0\0\0\0\0\0\0\0\0\0\0",
             b"D\0",
-            b"C\0\0\0\0\0\0\0\0\0\0\0\0\0\0\0\0\0\0\0\0\0\0\0",
+            b"C\0\0\0\0\0\0\0\0\0\0\0\0\0\0\0\0\0\0\0\0\0\0\0\0\0\0\0\0\0\0\0\0\0\0\0",
             b"P\0\0",
             b"P\0\0\x02",
-            b"T\0\0\0\0\0\0\0\0\0\0\0\0\0\0\0\0\0\x02",
+            b"T\0\0\0\0\0\0\0\0\0\0\0\0\0\0\0\0\0\0\0\0\x02",
         ] {
             assert_eq!(read(bytes), None, "{bytes:?}");
         }

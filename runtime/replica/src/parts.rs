@@ -2,6 +2,7 @@
 
 use crate::digest::Digest;
 use crate::message::{Message, Reader, MOST_COMMAND, MOST_MESSAGE, SHARE};
+use crate::roll::next_name;
 use muoswyld_member::{Name, Names};
 
 /// The most bytes of a request: a command with what stands before it.
@@ -77,6 +78,13 @@ impl Parts {
             if place.as_ref().is_some_and(|begun| !members.has(begun.from)) {
                 *place = None;
             }
+        }
+    }
+
+    /// The list has ended: each sender has another name in the next one, and sends there the parts that weren't delivered.
+    pub(crate) fn succeed(&mut self) {
+        for begun in self.begun.iter_mut().flatten() {
+            begun.from = next_name(begun.from);
         }
     }
 
@@ -161,6 +169,18 @@ mod tests {
         let later = Name::new(0, 2).unwrap();
         assert_eq!(feed(&mut parts, later, &messages[1]), None);
         assert_eq!(parts, Parts::default());
+    }
+
+    #[test]
+    fn what_has_begun_goes_on_in_the_next_list() {
+        let request = vec![b'A'; 3 * SHARE];
+        let messages = messages_of(request.clone());
+        let mut parts = Parts::default();
+        let before = Name::new(2, 3).unwrap();
+        assert_eq!(feed(&mut parts, before, &messages[0]), None);
+        assert_eq!(feed(&mut parts, before, &messages[1]), None);
+        parts.succeed();
+        assert_eq!(feed(&mut parts, name(2), &messages[2]), Some(request));
     }
 
     #[test]

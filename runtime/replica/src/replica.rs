@@ -1,6 +1,6 @@
 //! A replica, whatever it has.
 
-use crate::event::{Answer, Ended, Output, Plant, Refused, Request, SessionId, Settings, Status};
+use crate::event::{Answer, Ended, Output, Plant, Refused, Request, Settings, Status};
 use crate::holder::Holder;
 use crate::machine::StateMachine;
 use crate::message::{read, Chunk, Message, MOST_COMMAND};
@@ -13,6 +13,8 @@ use std::collections::VecDeque;
 
 /// How many bytes each delivery that is held counts beside its message's.
 const DELIVERY_HEAD: usize = 64;
+/// With a planted defect: the token of what is sent again, for which nobody waits.
+const AGAIN: u64 = u64::MAX;
 
 /// What a replica has.
 enum Phase<S: StateMachine> {
@@ -36,12 +38,14 @@ pub struct Replica<S: StateMachine> {
     held: VecDeque<Delivery>,
     held_bytes: usize,
     outputs: VecDeque<Output>,
-    /// The tokens of own requests, in the order in which they go out.
+    /// The tokens of own requests, in the order in which they go out. What isn't delivered in a list is sent again in the next one, in this order.
     pending: VecDeque<u64>,
     /// Who waits until a position is applied.
     waits: Vec<(Position, u64)>,
     given: Option<Position>,
     is_told: bool,
+    /// With a planted defect: the last message of a request.
+    last: Option<Vec<u8>>,
 }
 
 impl<S: StateMachine> Replica<S> {
@@ -57,6 +61,7 @@ impl<S: StateMachine> Replica<S> {
             waits: Vec::new(),
             given: None,
             is_told: false,
+            last: None,
         }
     }
 
@@ -120,26 +125,20 @@ impl<S: StateMachine> Replica<S> {
             {
                 return Err(Refused::TooLong);
             }
-            Request::SessionCommand { session, .. } | Request::Close(session)
-                if session.list != self.settings.list =>
-            {
-                self.answer(token, Answer::NoSession);
-                return Ok(());
-            }
             Request::Command(command) => Message::Command(command),
-            Request::Open => Message::Open,
+            Request::Open => Message::Open(self.settings.list),
             Request::SessionCommand {
                 session,
                 sequence,
                 answered,
                 command,
             } => Message::SessionCommand {
-                session: session.at,
+                session: *session,
                 sequence: *sequence,
                 answered: *answered,
                 command,
             },
-            Request::Close(SessionId { at, .. }) => Message::Close(*at),
+            Request::Close(session) => Message::Close(*session),
             Request::Barrier => Message::Barrier,
         };
         if request == Request::Barrier && self.settings.has(Plant::ReadsEarly) {
@@ -148,8 +147,11 @@ impl<S: StateMachine> Replica<S> {
                 return Ok(());
             }
         }
-        let sends = messages_of(message.bytes()).into_iter();
-        self.outputs.extend(sends.map(Output::Send));
+        let sends = messages_of(message.bytes());
+        if self.settings.has(Plant::SendsAnew) {
+            self.last = sends.last().cloned();
+        }
+        self.outputs.extend(sends.into_iter().map(Output::Send));
         self.pending.push_back(token);
         Ok(())
     }
@@ -181,13 +183,12 @@ impl<S: StateMachine> Replica<S> {
         }
     }
 
-    /// The members after an entry, as the member's `info` tells them with its `top`: said once after a join, it lets a joiner know
-    /// sooner that nobody is left who has the state.
-    pub fn know_members(&mut self, top: u32, members: Names) {
-        let given = self.given.map_or(0, |at| at.number);
+    /// The members after an entry, as the member's `info` tells them with its generation and its `top`: said once after a join, it lets a
+    /// joiner know sooner that nobody is left who has the state.
+    pub fn know_members(&mut self, top: Position, members: Names) {
         if let Phase::Waits(waiting) = &mut self.phase {
-            waiting.know(top, members, given);
-            if let Some(ended) = waiting.look(&self.settings) {
+            waiting.know(top, members, self.given);
+            if let Some(ended) = waiting.look() {
                 self.end(ended);
             }
         }
@@ -219,7 +220,7 @@ impl<S: StateMachine> Replica<S> {
     fn begin(&mut self, machine: S, delivery: Delivery) {
         let me = self.settings.name;
         match delivery {
-            Delivery::View { at, members, .. } if members.has(me) && at.number == 1 => {
+            Delivery::View { at, members, .. } if members.has(me) && is_first(at) => {
                 let state = State::founded(machine, &self.settings, Roll::founded(members));
                 let holder = Holder::new(self.settings.clone(), state, at);
                 self.phase = Phase::Holds(Box::new(holder));
@@ -233,6 +234,11 @@ impl<S: StateMachine> Replica<S> {
     }
 
     fn wait(&mut self, mut waiting: Box<Waiting<S>>, delivery: Delivery) {
+        let is_end = matches!(delivery, Delivery::Succeeded { .. });
+        if is_end && self.settings.has(Plant::TransfersAnew) {
+            self.held.clear();
+            self.held_bytes = 0;
+        }
         let outputs = &mut self.outputs;
         let mut sends = |message: Message| outputs.push_back(Output::Send(message.bytes()));
         match waiting.deliver(&delivery, &self.settings, &mut sends) {
@@ -331,13 +337,19 @@ impl<S: StateMachine> Replica<S> {
             return true;
         };
         self.held_bytes -= size_of(&delivery);
-        let is_own =
-            matches!(&delivery, Delivery::Message { from, .. } if *from == self.settings.name);
+        let is_own = matches!(&delivery, Delivery::Message { from, .. } if *from == holder.name);
+        let is_end = matches!(delivery, Delivery::Succeeded { .. });
         let applied = holder.apply(delivery);
         self.outputs.append(&mut holder.take_outputs());
+        if let (true, Some(last)) = (is_end && !self.pending.is_empty(), self.last.take()) {
+            self.outputs.push_back(Output::Send(last));
+            self.pending.push_back(AGAIN);
+        }
         match applied {
             Ok(Some(answer)) if is_own => {
-                if let Some(token) = self.pending.pop_front() {
+                let token = self.pending.pop_front();
+                let is_again = token == Some(AGAIN) && self.settings.has(Plant::SendsAnew);
+                if let (Some(token), false) = (token, is_again) {
                     self.answer(token, answer);
                 }
             }
@@ -347,6 +359,12 @@ impl<S: StateMachine> Replica<S> {
         self.look_at_waits();
         true
     }
+}
+
+/// Whether an entry is the first one of a group. Any other view of founders begins a later list, and who begins there by that has had a life
+/// before.
+fn is_first(at: Position) -> bool {
+    (at.generation, at.number) == (0, 1)
 }
 
 /// What a held delivery counts.

@@ -4,7 +4,7 @@ use crate::event::{Ended, Plant, Settings};
 use crate::machine::StateMachine;
 use crate::message::{Chunk, Reader};
 use crate::parts::Parts;
-use crate::roll::Roll;
+use crate::roll::{key_of, Roll};
 use crate::sessions::{Limits, Sessions};
 use crate::snapshot::{kind, State, VERSION};
 use muoswyld_member::Position;
@@ -16,8 +16,8 @@ const MOST_RECORD: usize = 16 << 20;
 #[derive(Debug)]
 pub(crate) struct Restoring<S> {
     machine: S,
-    /// The number of the Join.
-    number: u32,
+    /// The Join.
+    at: Position,
     /// The index of the next chunk.
     pub(crate) next: u32,
     digest: Option<u64>,
@@ -30,10 +30,10 @@ pub(crate) struct Restoring<S> {
 
 impl<S: StateMachine> Restoring<S> {
     /// Nothing yet, of a Join.
-    pub(crate) fn new(machine: S, settings: &Settings, number: u32) -> Restoring<S> {
+    pub(crate) fn new(machine: S, settings: &Settings, at: Position) -> Restoring<S> {
         Restoring {
             machine,
-            number,
+            at,
             next: 0,
             digest: None,
             bytes: Vec::new(),
@@ -47,7 +47,8 @@ impl<S: StateMachine> Restoring<S> {
     /// Takes a chunk; one that isn't the next changes nothing. Whether the state is whole.
     pub(crate) fn chunk(&mut self, chunk: &Chunk, plant: Option<Plant>) -> Result<bool, Ended> {
         let is_again = plant == Some(Plant::TakesChunkTwice) && chunk.index + 1 == self.next;
-        if chunk.number != self.number || (chunk.index != self.next && !is_again) {
+        let is_own = key_of(chunk.to, plant) == key_of(self.at, plant);
+        if !is_own || (chunk.index != self.next && !is_again) {
             return Ok(false);
         }
         let spoilt = self.spoilt(chunk.index);
@@ -64,10 +65,7 @@ impl<S: StateMachine> Restoring<S> {
     }
 
     fn spoilt(&self, chunk: u32) -> Ended {
-        Ended::Spoilt {
-            number: self.number,
-            chunk,
-        }
+        Ended::Spoilt { at: self.at, chunk }
     }
 
     /// The state, once it is whole, if its digest is the one that was said.
@@ -143,7 +141,6 @@ impl<S: StateMachine> Restoring<S> {
         let check_every = rest.u32()?;
         let roll = Roll::read(&mut rest)?;
         rest.end()?;
-        (version == VERSION && at.number == self.number && check_every > 0)
-            .then_some((roll, check_every))
+        (version == VERSION && at == self.at && check_every > 0).then_some((roll, check_every))
     }
 }

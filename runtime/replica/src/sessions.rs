@@ -1,8 +1,8 @@
 //! Sessions: what of each was done, and the answers that are kept.
 
 use crate::digest::Digest;
-use crate::event::{Answer, Plant, Settings};
-use crate::message::{put_position, Reader};
+use crate::event::{Answer, Plant, SessionId, Settings};
+use crate::message::{put_position, put_session, Reader};
 use muoswyld_member::Position;
 use std::collections::{BTreeMap, VecDeque};
 
@@ -30,7 +30,7 @@ impl Limits {
 /// A command's place in its session.
 #[derive(Clone, Copy, Debug)]
 pub(crate) struct Turn {
-    pub(crate) session: Position,
+    pub(crate) session: SessionId,
     pub(crate) sequence: u64,
     pub(crate) answered: u64,
 }
@@ -86,9 +86,9 @@ impl Session {
 #[derive(Clone, Debug, PartialEq, Eq)]
 pub(crate) struct Sessions {
     pub(crate) limits: Limits,
-    table: BTreeMap<Position, Session>,
+    table: BTreeMap<SessionId, Session>,
     /// The sessions by the position of their last use.
-    by_use: BTreeMap<Position, Position>,
+    by_use: BTreeMap<Position, SessionId>,
 }
 
 impl Sessions {
@@ -105,14 +105,14 @@ impl Sessions {
         self.table.len()
     }
 
-    fn insert(&mut self, id: Position, session: Session) {
+    fn insert(&mut self, id: SessionId, session: Session) {
         self.by_use.insert(session.used, id);
         self.table.insert(id, session);
     }
 
-    /// Opens a session at a position; the one that was used least recently ends, if there are too many.
-    pub(crate) fn open(&mut self, at: Position) {
-        self.insert(at, Session::new(at));
+    /// Opens a session at its position; the one that was used least recently ends, if there are too many.
+    pub(crate) fn open(&mut self, id: SessionId) {
+        self.insert(id, Session::new(id.at));
         while self.table.len() > self.limits.sessions as usize {
             let Some((_, id)) = self.by_use.pop_first() else {
                 return;
@@ -122,12 +122,17 @@ impl Sessions {
     }
 
     /// Closes a session; whether it was open.
-    pub(crate) fn close(&mut self, id: Position) -> bool {
+    pub(crate) fn close(&mut self, id: SessionId) -> bool {
         let closed = self.table.remove(&id);
         if let Some(session) = &closed {
             self.by_use.remove(&session.used);
         }
         closed.is_some()
+    }
+
+    /// Forgets all of them: a defect that a test plants.
+    pub(crate) fn forget(&mut self) {
+        *self = Sessions::new(self.limits);
     }
 
     /// Does a command once: `apply` is called only if it is the session's next.
@@ -179,7 +184,7 @@ impl Sessions {
         let all = self.table.iter().filter(move |_| !are_left_out);
         all.map(move |(id, session)| {
             let mut record = Vec::new();
-            put_position(&mut record, *id);
+            put_session(&mut record, *id);
             record.extend(session.last.to_be_bytes());
             put_position(&mut record, session.used);
             for (sequence, answer) in session.answers.iter().filter(|_| has_answers) {
@@ -194,7 +199,7 @@ impl Sessions {
     /// Takes a record.
     pub(crate) fn restore(&mut self, record: &[u8]) -> Option<()> {
         let mut rest = Reader(record);
-        let id = rest.position()?;
+        let id = rest.session()?;
         let last = rest.u64()?;
         let mut session = Session::new(rest.position()?);
         session.last = last;
@@ -223,6 +228,13 @@ mod tests {
         }
     }
 
+    fn id(number: u32) -> SessionId {
+        SessionId {
+            list: 7,
+            at: at(number),
+        }
+    }
+
     fn limits() -> Limits {
         Limits {
             sessions: 2,
@@ -235,7 +247,7 @@ mod tests {
     fn ask(sessions: &mut Sessions, number: u32, turn: (u32, u64, u64), done: &mut u32) -> Answer {
         let (session, sequence, answered) = turn;
         let turn = Turn {
-            session: at(session),
+            session: id(session),
             sequence,
             answered,
         };
@@ -248,7 +260,7 @@ mod tests {
     #[test]
     fn a_command_is_done_once_and_in_order() {
         let (mut sessions, mut done) = (Sessions::new(limits()), 0);
-        sessions.open(at(1));
+        sessions.open(id(1));
         let said = |text: &str| Answer::Done(text.into());
         assert_eq!(ask(&mut sessions, 2, (1, 1, 0), &mut done), said("1"));
         assert_eq!(ask(&mut sessions, 3, (1, 1, 0), &mut done), said("1"));
@@ -275,13 +287,13 @@ mod tests {
     #[test]
     fn the_session_that_was_used_least_recently_ends() {
         let (mut sessions, mut done) = (Sessions::new(limits()), 0);
-        sessions.open(at(1));
-        sessions.open(at(2));
+        sessions.open(id(1));
+        sessions.open(id(2));
         assert_eq!(
             ask(&mut sessions, 3, (1, 1, 0), &mut done),
             Answer::Done(b"1".to_vec())
         );
-        sessions.open(at(4));
+        sessions.open(id(4));
         assert_eq!(
             ask(&mut sessions, 5, (2, 1, 0), &mut done),
             Answer::NoSession
@@ -290,8 +302,8 @@ mod tests {
             ask(&mut sessions, 6, (1, 2, 0), &mut done),
             Answer::Done(b"2".to_vec())
         );
-        assert!(sessions.close(at(1)));
-        assert!(!sessions.close(at(1)));
+        assert!(sessions.close(id(1)));
+        assert!(!sessions.close(id(1)));
         assert_eq!(
             ask(&mut sessions, 7, (1, 3, 0), &mut done),
             Answer::NoSession
@@ -300,10 +312,26 @@ mod tests {
     }
 
     #[test]
+    fn a_session_of_another_group_is_none() {
+        let mut sessions = Sessions::new(limits());
+        sessions.open(id(1));
+        let other = SessionId { list: 8, ..id(1) };
+        let turn = Turn {
+            session: other,
+            sequence: 1,
+            answered: 0,
+        };
+        let answer = sessions.command(at(2), turn, None, || panic!("it isn't done"));
+        assert_eq!(answer, Answer::NoSession);
+        assert!(!sessions.close(other));
+        assert_eq!(sessions.len(), 1);
+    }
+
+    #[test]
     fn records_have_all_of_it() {
         let (mut sessions, mut done) = (Sessions::new(limits()), 0);
-        sessions.open(at(1));
-        sessions.open(at(2));
+        sessions.open(id(1));
+        sessions.open(id(2));
         for sequence in 1..=3 {
             ask(
                 &mut sessions,

@@ -11,7 +11,7 @@ use muoswyld_member::Position;
 use std::collections::VecDeque;
 
 /// The form of snapshots.
-pub(crate) const VERSION: u8 = 1;
+pub(crate) const VERSION: u8 = 2;
 
 /// What a record of a snapshot is.
 pub(crate) mod kind {

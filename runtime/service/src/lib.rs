@@ -4,7 +4,7 @@
 
 #![warn(missing_docs)]
 
-use muoswyld_group::{End, Group, Info, ReceiveError, SendError};
+use muoswyld_group::{End, Group, Info, Position, ReceiveError, SendError};
 use muoswyld_replica::{Ended, Output, Refused, Replica, Request, Settings, StateMachine, Status};
 use std::collections::VecDeque;
 use std::sync::Arc;
@@ -25,7 +25,7 @@ pub enum Stop {
     Replica(Ended),
 }
 
-/// A replicated service at a member.
+/// A replicated service at a member. It goes on over the ends of the group's lists.
 pub struct Service<S: StateMachine> {
     group: Arc<Group>,
     replica: Replica<S>,
@@ -82,7 +82,7 @@ impl<S: StateMachine> Service<S> {
     }
 
     /// Answers the token once the machine has applied the list up to a position.
-    pub fn wait_for(&mut self, token: u64, at: muoswyld_group::Position) {
+    pub fn wait_for(&mut self, token: u64, at: Position) {
         self.replica.wait_for(token, at);
     }
 
@@ -142,8 +142,13 @@ impl<S: StateMachine> Service<S> {
     fn look_at_members(&mut self) -> Result<(), Stop> {
         if !self.knows_members && self.replica.status().given.is_some() {
             self.knows_members = true;
-            let standing = self.info()?.standing;
-            self.replica.know_members(standing.top, standing.members);
+            let info = self.info()?;
+            let top = Position {
+                generation: info.generation,
+                number: info.standing.top,
+                index: 0,
+            };
+            self.replica.know_members(top, info.standing.members);
         }
         Ok(())
     }

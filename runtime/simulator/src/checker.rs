@@ -1,7 +1,7 @@
 //! What is checked of what the applications saw.
 //!
 //! - All lives were given pieces of one list, over all of a group's lists: at a position everybody has the same delivery, and nobody
-//!   misses one between its first and its last. (A joiner isn't given a long message that began before its join.)
+//!   misses one between its first and its last.
 //! - A founder's piece begins with the founders' view, a joiner's with its own join.
 //! - The messages of a sender stand in the list in the order in which it sent them, each once, and none that it didn't send.
 //! - A message whose ticket was settled stands at the position that was told, and its sender was given it before.
@@ -10,12 +10,6 @@
 
 use muoswyld_member::{Delivery, Name, Position, Unsent, MOST_MESSAGE};
 use std::collections::{BTreeMap, BTreeSet};
-
-/// Whether a message may go in more than one body.
-fn may_go_in_parts(message: &[u8]) -> bool {
-    let is_reserved = matches!(message.first(), Some(b'P' | b'S' | b'C'));
-    message.len() > if is_reserved { 1021 } else { 1024 }
-}
 
 /// What a life's application did and saw.
 #[derive(Clone, Debug)]
@@ -155,29 +149,15 @@ fn is_gapless(app: &App, list: &List) -> Result<(), String> {
         return Ok(());
     };
     let had: BTreeSet<Position> = app.log.iter().map(Delivery::at).collect();
-    let is_joiner = matches!(first, Delivery::Joined { .. });
-    let mut spoke = BTreeSet::new();
     for (at, delivery) in list.range(first.at()..=last.at()) {
-        let from = match delivery {
-            Delivery::Message { from, message, .. } => {
-                Some(((at.generation, *from), may_go_in_parts(message)))
-            }
-            _ => None,
-        };
         if !had.contains(at) {
-            let is_begun = is_joiner && at.generation == first.at().generation;
-            let may_miss =
-                from.is_some_and(|(from, in_parts)| is_begun && in_parts && !spoke.contains(&from));
-            if !may_miss {
-                let text = format!("{delivery:?}");
-                let (first, last) = (first.at(), last.at());
-                return Err(format!(
-                    "{} wasn't given {at:?}, of {first:?} to {last:?}: {text:.100}",
-                    app.name
-                ));
-            }
+            let text = format!("{delivery:?}");
+            let (first, last) = (first.at(), last.at());
+            return Err(format!(
+                "{} wasn't given {at:?}, of {first:?} to {last:?}: {text:.100}",
+                app.name
+            ));
         }
-        spoke.extend(from.map(|(from, _)| from));
     }
     Ok(())
 }

@@ -5,9 +5,10 @@ use crate::machine::id_of;
 use crate::plan::{Act, NextList, Plan};
 use crate::process::Process;
 use crate::world::World;
-use muoswyld_failures::{places_of, NoVoter, Places};
+use muoswyld_failures::{places_of, NoVoter, Places, Policy};
 use muoswyld_guarded::next_id;
 use muoswyld_member::{Founding, HandleError, Input, Name, Names, Next, Standing, Successor};
+use std::collections::BTreeMap;
 
 /// A list of the group.
 #[derive(Clone, Debug)]
@@ -33,12 +34,18 @@ impl List {
     /// The first list of a plan.
     pub(crate) fn first(plan: &Plan) -> List {
         let founders = places(plan.founding.founders);
-        let voters = plan.fenced.as_ref().and_then(|fenced| fenced.voters);
+        let fenced = plan.fenced.as_ref();
+        let voters = fenced.and_then(|fenced| fenced.voters);
+        let is_told = fenced.is_some_and(|fenced| fenced.policy == Policy::Told);
         List {
             founding: plan.founding,
             group: None,
             id: id_of(plan),
-            voters: voters.unwrap_or(founders),
+            voters: if is_told {
+                0
+            } else {
+                voters.unwrap_or(founders)
+            },
             from: Names::nobody(),
             next: None,
         }
@@ -70,7 +77,11 @@ impl World<'_> {
 
     /// The name that a process has in a list, or will have if it comes to it.
     pub(crate) fn name_in(&self, process: &Process, generation: u32) -> Option<Name> {
-        let names = &process.app.names;
+        self.later_name(&process.app.names, generation)
+    }
+
+    /// The name in a list of a process that had these names in some.
+    pub(crate) fn later_name(&self, names: &BTreeMap<u32, Name>, generation: u32) -> Option<Name> {
         if let Some(name) = names.get(&generation) {
             return Some(*name);
         }
@@ -89,7 +100,7 @@ impl World<'_> {
         Some(name)
     }
 
-    fn runs_as(&self, generation: u32, name: Name) -> bool {
+    pub(crate) fn runs_as(&self, generation: u32, name: Name) -> bool {
         let process = self.places[usize::from(name.place())].as_ref();
         let process = process.filter(|process| process.counts());
         process.and_then(|process| self.name_in(process, generation)) == Some(name)
@@ -220,6 +231,7 @@ impl World<'_> {
     /// A member is asked to end its list.
     pub(crate) fn succeed(&mut self, place: u8, list: NextList) -> Result<bool, String> {
         let now = self.now;
+        let votes = self.fenced().is_some_and(|it| it.policy != Policy::Told);
         let Some(process) = self.places[usize::from(place)].as_mut() else {
             return Ok(false);
         };
@@ -233,7 +245,7 @@ impl World<'_> {
             resilience: most.saturating_sub(list.less),
             window: list.window,
             pb_up_to: self.plan.founding.pb_up_to,
-            voters: (named.len() % 2 == 1).then_some(named),
+            voters: (votes && named.len() % 2 == 1).then_some(named),
         };
         let time = process.clock.time(now);
         let asked = process.member.handle(time, Input::Succeed(next));
@@ -293,8 +305,10 @@ impl World<'_> {
     fn end_refused(&mut self) -> Result<(), String> {
         let last = self.last_list();
         let running = self.places.iter().flatten();
-        let refused = running
-            .flat_map(|process| process.member.failures().refused.iter().collect::<Vec<_>>());
+        let refused = running.flat_map(|process| {
+            let refused = process.member.failures().refused_members;
+            refused.iter().collect::<Vec<_>>()
+        });
         let refused: Vec<Name> = refused.map(|name| Name::of_byte(name.byte())).collect();
         for name in refused {
             if self.runs_as(last, name) {
@@ -454,22 +468,6 @@ impl World<'_> {
         Ok(())
     }
 
-    /// Whoever asks in vain to join a list that has ended comes back in the latest one.
-    pub(crate) fn look_at_asker(&mut self, place: u8) -> Result<(), String> {
-        let last = self.last_list();
-        let Some(process) = &self.places[usize::from(place)] else {
-            return Ok(());
-        };
-        if process.member.generation() < last && !process.has_list() {
-            return self.stop(place, Some(muoswyld_member::End::Superseded));
-        }
-        let (at, number) = (self.now + 3_000_000, process.number);
-        if !process.has_list() {
-            self.plan_at(at, Happening::LooksAtAsker { place, number });
-        }
-        Ok(())
-    }
-
     /// In which list a place begins, and as which life: the latest one that its disk knows, or running members.
     pub(crate) fn next_life(&mut self, place: u8) -> (u32, u8) {
         let machine = &self.machines[usize::from(place)];
@@ -495,13 +493,27 @@ impl World<'_> {
         let voters = self.lists.last().map_or(0, |list| list.voters);
         let machines = (0..16).zip(&self.machines);
         let mut voting = machines.filter(|(place, _)| voters >> place & 1 == 1);
-        !self.plan.has_ends || voting.all(|(_, machine)| machine.voters.contains_key(&last))
+        !self.plan.has_ends
+            || !self.has_files()
+            || voting.all(|(_, machine)| machine.voters.contains_key(&last))
+    }
+
+    /// Whether a majority of the places that vote in a list have their files of it.
+    pub(crate) fn may_be_voted(&self, generation: u32) -> bool {
+        let list = self.lists.get(generation as usize);
+        let voters = list.map_or(0, |list| list.voters);
+        let machines = (0..16).zip(&self.machines);
+        let voting = machines.filter(|(place, machine)| {
+            voters >> place & 1 == 1 && machine.voters.contains_key(&generation)
+        });
+        voting.count() > voters.count_ones() as usize / 2
     }
 
     /// Whether too few of the places that vote in the latest list have their files, or will have: the group stands still for good.
     pub(crate) fn has_too_few_voters(&self) -> bool {
         let last = self.last_list();
-        let Some(list) = self.lists.last().filter(|_| self.plan.has_ends) else {
+        let counts = self.plan.has_ends && self.has_files();
+        let Some(list) = self.lists.last().filter(|_| counts) else {
             return false;
         };
         let may_vote = |place: &u8| {

@@ -20,6 +20,11 @@ impl World<'_> {
         self.plan.fenced.as_ref()
     }
 
+    /// Whether places vote, each with a file on its disk.
+    pub(crate) fn has_files(&self) -> bool {
+        self.fenced().is_some_and(FencedPlan::has_files)
+    }
+
     /// Whether a test planted a defect in what drives the members.
     fn drives_with(&self, plant: DriverPlant) -> bool {
         self.fenced()
@@ -28,7 +33,7 @@ impl World<'_> {
 
     /// The voters' files are made, when the group is founded.
     pub(crate) fn found(&mut self) {
-        if self.plan.fenced.is_none() {
+        if !self.has_files() {
             return;
         }
         for name in self.plan.founding.founders.iter() {
@@ -97,6 +102,7 @@ impl World<'_> {
     /// Whether the loss of a place's disk would leave too few voters of a list for good.
     fn is_vote_needed(&self, place: u8) -> bool {
         self.plan.has_ends
+            && self.has_files()
             && self.lists.iter().enumerate().any(|(generation, list)| {
                 let generation = generation as u32;
                 let has_file = |other: &u8| {
@@ -122,6 +128,8 @@ impl World<'_> {
         }
         machine.begins = None;
         machine.lives.insert(generation, life);
+        // a process that begins serves no other list
+        machine.voters.retain(|list, _| *list == generation);
         match self.drives_with(DriverPlant::BeginsBeforeSync) {
             true => Ok(()),
             false => self.begin_life(place, generation, life),
@@ -138,6 +146,7 @@ impl World<'_> {
         self.lives[usize::from(place)] = life;
         self.counts.lives += 1;
         self.start_process(generation, name, false)?;
+        self.tell_of_ended(place);
         self.look_at_vote(place, generation)
     }
 
@@ -317,15 +326,7 @@ impl World<'_> {
                     bytes,
                 } => self.write(place, (generation, number), bytes)?,
                 Deed::Stopped { generation, name } => self.note_given_up(generation, name),
-                Deed::Ended { generation, why } => {
-                    let name = self.process(place)?.name;
-                    if why == Ending::GivenUp {
-                        self.note_given_up(generation, name);
-                    }
-                    self.counts.ended += 1;
-                    self.stop(place, Some(End::LeftOut))?;
-                    return Ok(());
-                }
+                Deed::Ended { generation, why } => return self.ends(place, generation, why),
                 Deed::Begin {
                     generation,
                     id,
@@ -341,10 +342,36 @@ impl World<'_> {
                     notice: failures::Notice::Refuses(_),
                     ..
                 } => self.counts.refusals += 1,
-                Deed::Fence { .. } | Deed::Told { .. } => {}
+                Deed::Fence {
+                    generation, name, ..
+                } => self.runs_fence(place, generation, name)?,
+                Deed::Told { .. } => {}
             }
         }
         Ok(())
+    }
+
+    /// A life ends by what says who has stopped.
+    fn ends(&mut self, place: u8, generation: u32, why: Ending) -> Result<(), String> {
+        let name = self.process(place)?.name;
+        let end = match why {
+            Ending::Superseded => End::Superseded,
+            _ => End::LeftOut,
+        };
+        match why {
+            Ending::GivenUp => self.note_given_up(generation, name),
+            Ending::Superseded if generation >= self.last_list() => {
+                return Err(format!("{name} says that list {generation} has ended"));
+            }
+            Ending::Unserved if self.may_be_voted(generation) => {
+                return Err(format!(
+                    "{name} ends, though enough places may vote in list {generation} still"
+                ));
+            }
+            _ => {}
+        }
+        self.counts.ended += 1;
+        self.stop(place, Some(end))
     }
 
     /// A voter's file is to be written.

@@ -2,6 +2,7 @@
 
 use crate::plan::Act;
 use muoswyld_member::Name;
+use std::collections::BTreeMap;
 use std::rc::Rc;
 
 /// What may happen.
@@ -31,6 +32,18 @@ pub(crate) enum Happening {
         place: u8,
         number: u64,
         name: Name,
+    },
+    IsToldOf {
+        place: u8,
+        number: u64,
+        names: BTreeMap<u32, Name>,
+    },
+    Fences {
+        place: u8,
+        number: u64,
+        generation: u32,
+        name: Name,
+        done: bool,
     },
     Looks {
         place: u8,
@@ -65,10 +78,6 @@ pub(crate) enum Happening {
         number: u64,
         generation: u32,
         is_written: bool,
-    },
-    LooksAtAsker {
-        place: u8,
-        number: u64,
     },
     Starts {
         place: u8,

@@ -15,6 +15,7 @@ mod happening;
 pub mod journals;
 mod lifecycle;
 mod machine;
+mod outside;
 pub mod plan;
 mod process;
 mod report;

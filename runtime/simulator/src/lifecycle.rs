@@ -64,10 +64,6 @@ impl World<'_> {
         if slow.is_some() {
             self.plan_at(self.now + 1, Happening::Consumes { place, number });
         }
-        if self.plan.has_ends {
-            let at = self.now + 3_000_000;
-            self.plan_at(at, Happening::LooksAtAsker { place, number });
-        }
         Ok(())
     }
 
@@ -101,7 +97,7 @@ impl World<'_> {
 
     /// Whether a process may crash so that the run stays lawful and goes on: no more stopped members than the resilience of any view,
     /// a majority is left of each, and another one knows the group.
-    fn may_crash(&self, place: u8) -> bool {
+    pub(crate) fn may_crash(&self, place: u8) -> bool {
         let Some(process) = &self.places[usize::from(place)] else {
             return false;
         };
@@ -288,15 +284,17 @@ impl World<'_> {
             return Ok(());
         };
         self.look_at_suspects(&process)?;
-        let name = process.name;
+        let (name, begun) = (process.name, process.app.name);
         let named = process.app.names.iter();
         self.stopped
             .extend(named.map(|(list, name)| (*list, *name)));
         self.keep_journals(&process.app, process.journals);
+        let names = process.app.names.clone();
         self.done.push(process.app);
         self.look_whether_lawful();
+        self.tell_all(&names);
         if let Some(services) = &mut self.services {
-            services.ended(name);
+            services.ended(begun);
         }
         self.counts.unwelcomed += u64::from(end == Some(End::Unwelcomed));
         if self.plan.fenced.is_some() {
@@ -371,8 +369,11 @@ impl World<'_> {
                 let named = (process.member.generation(), name);
                 self.is_void || self.given_up.contains_key(&named)
             }
-            End::Superseded => self.plan.has_ends,
-            End::NoNumbersLeft | End::NodeFailed | End::OtherVersion => false,
+            // who crashed may have let its end of the list out in part
+            End::Superseded => {
+                process.member.generation() < self.last_list() || self.counts.crashes > 0
+            }
+            End::NoNumbersLeft | End::NodeFailed | End::OtherVersion | End::ContentsLost => false,
         };
         if !is_expected {
             return Err(format!("{name} ended, though it ran: {end:?}"));
@@ -432,10 +433,12 @@ impl World<'_> {
             if lists.is_between() || lists.ended_lists() > 0 {
                 return false;
             }
+            // what a member has taken may wait for its release
+            let is_out = process.release_at.is_none();
             let is_one = standing.members.iter().eq(names.iter().copied());
             let is_quiet = matches!(standing.role, Role::Member | Role::Sequencer);
             let is_done = info.unsettled == 0 && standing.taken == standing.top;
-            if !is_one || !is_quiet || !is_done || process.leaves {
+            if !is_out || !is_one || !is_quiet || !is_done || process.leaves {
                 return false;
             }
         }

@@ -70,6 +70,7 @@ pub(crate) fn core_of(
         settings.silence = settings.least_silence();
         settings.plant = fenced.core_plant;
         settings.voters = list.voters;
+        settings.fence_within = Some(300_000);
     }
     settings.least = plan.least.unwrap_or(settings.least);
     // a plan has an odd number of founders, and times that are long enough

@@ -131,6 +131,27 @@ impl FencedPlan {
         }
     }
 
+    /// Where somebody outside tells all members who has stopped, within half a second.
+    pub fn told() -> FencedPlan {
+        FencedPlan {
+            policy: Policy::Told,
+            ..FencedPlan::echo()
+        }
+    }
+
+    /// Where programs end whoever a majority of the voters doesn't hear. Now and then one fails.
+    pub fn command() -> FencedPlan {
+        FencedPlan {
+            policy: Policy::Command,
+            ..FencedPlan::echo()
+        }
+    }
+
+    /// Whether places vote, each with a file on its disk.
+    pub fn has_files(&self) -> bool {
+        matches!(self.policy, Policy::Echo | Policy::Lease(_))
+    }
+
     /// With leases of 200 milliseconds, for clocks that drift by at most so many thousandths.
     pub fn lease(drift: u64) -> FencedPlan {
         FencedPlan {
@@ -238,6 +259,11 @@ impl Plan {
         if plan.sizes == Sizes::Long {
             plan.send_every *= 5;
             plan.most_sends = 4;
+            if draw.per_mille(400) {
+                // queues and windows fill
+                plan.send_every = 10_000;
+                plan.most_sends = 40;
+            }
         }
         plan.draw_acts(&mut draw);
         plan

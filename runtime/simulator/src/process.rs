@@ -195,7 +195,7 @@ fn message_of(name: Name, ticket: u64, sizes: Sizes, draw: &mut Draw) -> Vec<u8>
     let mut head = [&[name.byte()][..], &ticket.to_be_bytes()[2..]].concat();
     if draw.per_mille(100) {
         // as a body of another kind begins
-        head.extend(draw.one_of(b"PSC"));
+        head.extend(draw.one_of(b"PRSC"));
     }
     head.iter().rev().cycle().take(length).copied().collect()
 }

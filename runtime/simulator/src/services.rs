@@ -1,15 +1,18 @@
 //! What runs over the members of a run.
 
 use crate::draw::Draw;
+use crate::plan::NextList;
 use crate::world::World;
-use muoswyld_member::{Delivery, HandleError, Info, Input, Name};
+use muoswyld_member::{Delivery, HandleError, Info, Input, Name, Successor};
 
 /// What runs over the members of a run, in place of applications that send random messages: one value for all of them.
+///
+/// A life is named as in the list in which it begins, also after that has ended: no two lives that run have the same name by that.
 pub trait Services {
     /// A life begins.
     fn begins(&mut self, name: Name);
 
-    /// A life's member delivers. `info` is how the member stands, which may be further already. An error is what is wrong.
+    /// A life's member delivers; ends of lists, too. `info` is how the member stands, which may be further already. An error is what is wrong.
     fn delivered(&mut self, name: Name, delivery: &Delivery, info: &Info) -> Result<(), String>;
 
     /// The next message that a life sends.
@@ -21,6 +24,12 @@ pub trait Services {
     /// Whether a life's member is to leave.
     fn leaves(&self, name: Name) -> bool;
 
+    /// What the next list is to be, if a life's member is to end its list now. It may be refused, as it is by any member.
+    fn succeeds(&mut self, name: Name) -> Option<NextList> {
+        let _ = name;
+        None
+    }
+
     /// A life has ended.
     fn ended(&mut self, name: Name);
 
@@ -28,15 +37,27 @@ pub trait Services {
     fn is_at_rest(&self, running: &[Name]) -> bool;
 
     /// Looks at all of it at the end. `is_over` says that the group can't go on: it has no members, or too few. An error is what is wrong.
+    /// It isn't asked if more have stopped than the resilience: from then on nothing is served.
     fn check(&mut self, is_over: bool) -> Result<(), String>;
 }
 
 impl World<'_> {
-    /// The name of a place's process, if something runs over it.
+    /// The name of a place's life, if something runs over it.
     fn served(&self, place: u8) -> Option<Name> {
-        self.services.as_ref()?;
+        self.services.as_ref().filter(|_| !self.is_void)?;
         let process = self.places[usize::from(place)].as_ref()?;
-        process.counts().then_some(process.name)
+        process.counts().then_some(process.app.name)
+    }
+
+    /// Tells what runs over a place that a list has ended.
+    pub(crate) fn serve_end(&mut self, place: u8, next: &Successor) -> Result<(), String> {
+        let end = Delivery::Succeeded {
+            at: next.at,
+            members: next.members,
+            founding: next.founding,
+            voters: next.voters,
+        };
+        self.serve_delivery(place, &end)
     }
 
     /// Tells what runs over a place what its member delivers.
@@ -56,10 +77,15 @@ impl World<'_> {
         let Some(name) = self.served(place) else {
             return Ok(self.services.is_some());
         };
+        let mut next = None;
         if let Some(services) = &mut self.services {
             services.acts(name, self.now, self.is_calm, &mut self.draw)?;
+            next = services.succeeds(name).filter(|_| self.plan.has_ends);
         }
         self.serve_sends(place)?;
+        if let Some(next) = next {
+            self.succeed(place, next)?;
+        }
         Ok(true)
     }
 
@@ -109,7 +135,8 @@ impl World<'_> {
 
     /// Whether nothing more is to happen in what runs over the members.
     pub(crate) fn services_rest(&self) -> bool {
-        let running = self.places.iter().flatten().map(|process| process.name);
+        let running = self.places.iter().flatten();
+        let running = running.map(|process| process.app.name);
         let running: Vec<Name> = running.collect();
         self.services
             .as_ref()

@@ -195,7 +195,9 @@ impl<'a> World<'a> {
 
     pub(crate) fn run_until(&mut self, until: u64) -> Result<(), String> {
         while let Some(Reverse(next)) = self.queue.peek() {
-            if next.at > until {
+            // once more have stopped than the resilience allows two parts may go on with two lists, each by itself
+            let is_apart = self.is_void && self.plan.has_ends;
+            if next.at > until || is_apart {
                 break;
             }
             let Some(Reverse(next)) = self.queue.pop() else {
@@ -219,9 +221,10 @@ impl<'a> World<'a> {
             | Happening::Emits { place, number }
             | Happening::Written { place, number, .. }
             | Happening::ListBegins { place, number, .. }
-            | Happening::LooksAtAsker { place, number }
             | Happening::Sends { place, number }
             | Happening::Consumes { place, number }
+            | Happening::IsToldOf { place, number, .. }
+            | Happening::Fences { place, number, .. }
             | Happening::IsTold { place, number, .. } => (*place, Some(*number)),
             _ => return None,
         };
@@ -275,11 +278,17 @@ impl<'a> World<'a> {
                 is_written,
                 ..
             } => self.begin_list(place, generation, is_written)?,
-            Happening::LooksAtAsker { .. } => self.look_at_asker(place)?,
             Happening::Releases { .. } => self.release(place)?,
             Happening::Sends { .. } => self.send(place)?,
             Happening::Consumes { .. } => self.consume(place)?,
             Happening::IsTold { name, .. } => self.give(place, Input::Stopped(name)),
+            Happening::IsToldOf { names, .. } => self.is_told_of(place, names)?,
+            Happening::Fences {
+                generation,
+                name,
+                done,
+                ..
+            } => self.fences(place, generation, name, done)?,
             _ => {}
         }
         Ok(())
@@ -399,7 +408,10 @@ impl<'a> World<'a> {
                 self.process(place)?.app.settle(ticket, result)?;
             }
             Output::Ended(end) => self.process(place)?.ended = Some(end),
-            Output::Succeeded(next) => self.succeeded(generation, next)?,
+            Output::Succeeded(next) => {
+                self.serve_end(place, &next)?;
+                self.succeeded(generation, next)?;
+            }
             Output::Told(Notice::ResetsStuck) => self.counts.stuck_resets += 1,
             Output::ResetDone { .. } | Output::Told(_) => {}
         }

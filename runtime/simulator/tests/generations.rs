@@ -1,5 +1,6 @@
 //! Groups whose members find out by themselves who has stopped, and whose lists end: amid losses, pauses, splits, crashes and returns.
 
+use muoswyld_failures::Policy;
 use muoswyld_member::Limits;
 use muoswyld_simulator::plan::{Act, FencedPlan, Sizes};
 use muoswyld_simulator::{run, Failure, Fenced, Plan, Report};
@@ -70,13 +71,25 @@ fn many_seeds(what: &str, fenced: &FencedPlan) {
     let all = sum(&reports);
     println!("{what}: {count} seeds, {void} void, {delivered} delivered, {all:?}");
     assert!(bad.is_empty(), "{what}: {} seeds failed", bad.len());
-    assert!(all.lists > count && all.closed > all.lists && all.given_up > count / 4);
+    assert!(all.lists > count && all.closed > all.lists);
+    // where they are told nobody is given up that runs
+    assert!(all.given_up > count / 4 || fenced.policy == Policy::Told);
     assert!((void as u64) < count / 3 && delivered as u64 > count * 50);
 }
 
 #[test]
 fn many_seeds_by_echo() {
     many_seeds("echo", &FencedPlan::echo());
+}
+
+#[test]
+fn many_seeds_by_word() {
+    many_seeds("told", &FencedPlan::told());
+}
+
+#[test]
+fn many_seeds_by_command() {
+    many_seeds("command", &FencedPlan::command());
 }
 
 #[test]
@@ -98,6 +111,8 @@ fn ends_by_itself(seed: u64, succeed_at: Option<Limits>, acts: &[(u64, u8, Act)]
     let mut plan = Plan::generations(seed, fenced);
     (plan.sizes, plan.send_every, plan.most_sends) = (Sizes::Small, 20_000, 80);
     plan.faults.lost = plan.faults.lost.min(10);
+    // what waits for an application that is slow goes in few entries
+    plan.slow = 0;
     plan.acts = acts.to_vec();
     plan.ends = 7_000_000;
     plan.succeed_at = succeed_at;
@@ -124,7 +139,7 @@ fn a_list_ends_by_itself_before_its_lives_or_numbers_run_out() {
         let (lists, crashes) = ends_by_itself(seed, lives(14), &[crash]);
         assert_eq!(lists > 0, crashes > 0);
         crashed += crashes;
-        assert!(ends_by_itself(seed, numbers, &[]).0 > 0);
+        assert!(ends_by_itself(seed, numbers, &[]).0 > 0, "{seed}");
     }
     assert!(crashed > 0, "nothing happened");
 }
@@ -135,6 +150,8 @@ fn one_seed_of_generations() {
     let seed = std::env::var("SEED").ok().and_then(|it| it.parse().ok());
     let mut fenced = match std::env::var("POLICY").as_deref() {
         Ok("lease" | "bounds") => FencedPlan::lease(100),
+        Ok("told") => FencedPlan::told(),
+        Ok("command") => FencedPlan::command(),
         _ => FencedPlan::echo(),
     };
     fenced.at_bounds = std::env::var("POLICY").as_deref() == Ok("bounds");

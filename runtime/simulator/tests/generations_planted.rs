@@ -212,3 +212,49 @@ fn an_echo_of_the_old_list_counts_in_the_next_one() {
         SEEN,
     );
 }
+
+/// Of five members 0, 1 and 2 vote. Their list ends, and 4 is cut off at that moment. 0 comes back in the next list: so it doesn't vote in the first
+/// one any more, but 1 and 2 do.
+fn about_a_return(plan: &mut Plan) {
+    about_the_end(plan);
+    if let Some(fenced) = &mut plan.fenced {
+        fenced.voters = Some(0b111);
+    }
+    let next = NextList {
+        window: 64,
+        less: 0,
+        voters: 0,
+        tries: 0,
+    };
+    let at = 900_000;
+    let micros = 60_000 + plan.seed % 20 * 10_000;
+    let places = 1 << 4;
+    let back = Some(5_000);
+    let crash = at + 20_000 + plan.seed % 7 * 5_000;
+    plan.acts = vec![
+        (at, 3, Act::Succeed(next)),
+        (at + 100, 0, Act::Split { places, micros }),
+        (crash, 0, Act::Crash { back, twin: false }),
+    ];
+    plan.ends = 2_500_000;
+}
+
+#[test]
+fn a_member_that_is_behind_ends_though_its_voters_may_echo_it() {
+    found(
+        Plant::EndsAtOneElsewhere,
+        &quiet(FencedPlan::echo()),
+        about_a_return,
+        "though enough places may vote",
+    );
+}
+
+#[test]
+fn a_member_heeds_those_that_are_behind() {
+    found(
+        Plant::HeedsEarlierList,
+        &FencedPlan::echo(),
+        |_| (),
+        "though enough places may vote",
+    );
+}

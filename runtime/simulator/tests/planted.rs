@@ -5,7 +5,7 @@ use muoswyld_simulator::plan::{Act, Sizes};
 use muoswyld_simulator::{run, Plan};
 
 /// Within how many seeds a defect must be found.
-const SEEDS: u64 = 300;
+const SEEDS: u64 = 1000;
 
 /// The first seed that finds a defect, and what it finds, with plans that are changed so that they are about it.
 fn found_with(plant: Plant, change: impl Fn(&mut Plan)) -> (u64, String) {
@@ -39,8 +39,26 @@ fn a_message_that_is_sent_anew_though_it_is_under_way() {
 }
 
 #[test]
-fn a_part_that_is_dropped() {
-    found_with(Plant::DropsPart, |plan| plan.sizes = Sizes::Long);
+fn a_letter_that_the_node_is_given_without_its_contents() {
+    let what = found_with(Plant::GivesWithoutBytes, |plan| plan.sizes = Sizes::Long).1;
+    assert!(what.contains("ContentsLost"), "{what}");
+}
+
+#[test]
+fn contents_that_are_given_up_before_all_have_them() {
+    found_with(Plant::DropsBytesEarly, |plan| plan.sizes = Sizes::Long);
+}
+
+#[test]
+fn a_last_chunk_that_is_named_and_not_cut() {
+    let what = found_with(Plant::NamesBeforeCut, |plan| plan.sizes = Sizes::Long).1;
+    assert!(what.contains("ContentsLost"), "{what}");
+}
+
+#[test]
+fn a_chunk_of_another_offset() {
+    let what = found_with(Plant::TakesAnyOffset, |plan| plan.sizes = Sizes::Long).1;
+    assert!(what.contains("ContentsLost"), "{what}");
 }
 
 #[test]

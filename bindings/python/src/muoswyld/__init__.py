@@ -25,6 +25,7 @@ from ._config import Config, add_options, config_of, new_key, node_version, read
 from ._errors import (
     BadAddress,
     BadName,
+    BadState,
     BadValue,
     Busy,
     Crowded,
@@ -60,6 +61,7 @@ from ._types import Delivery, End, Info, Joined, Left, Message, Name, Position, 
 __all__ = [
     "BadAddress",
     "BadName",
+    "BadState",
     "BadValue",
     "Busy",
     "Config",

@@ -90,6 +90,29 @@ class Config:
     """A new file for the member's journal (docs/NETWORK.md)."""
     start_within: float | None = None
     """How many seconds `create` and `join` wait at most; without end if it is None."""
+    state: str | os.PathLike[str] | None = None
+    """The place's folder of state, on a local disk, as `Group.found` makes it. With it no life runs twice, and no two processes of the place run at a time."""
+    next_life: bool = False
+    """Starts the place's next life that was never begun, in the latest list of the group: as its folder says, and the members at the other addresses. Its
+    place is that of the name. Start it by `Group.start`."""
+    policy: str | None = None
+    """What makes it certain that a name has stopped: "told", "echo", "lease" or "command" (docs/FAILURES.md). If it is None it is "echo" if voters and a folder
+    of state are given, and else "told"."""
+    voters: str | None = None
+    """The places that vote who has stopped, as "0,1,2": some of the founders, odd in number; all founders if it is None."""
+    lease: float = 1.0
+    """How many seconds a lease lasts, for "lease"."""
+    drift: int = 100
+    """By how many thousandths the rate of a clock may differ from real time, for "lease"."""
+    fence: str | os.PathLike[str] | None = None
+    """The program that ends a name, for "command"."""
+    fence_within: float = 30.0
+    """How many seconds that program may take."""
+    succeed_at_lives: int | None = None
+    """The list ends by itself once a member's place has at most so many lives left, 0 to 15. If only the other one of these two is given it is 1."""
+    succeed_at_numbers: int | None = None
+    """The list ends by itself once at most so many numbers of entries are left. If only the other one is given it is 1,000,000. Without either the list ends
+    only by `Group.succeed`."""
 
 
 def _number(what: str, value: int, bits: int) -> int:
@@ -98,6 +121,11 @@ def _number(what: str, value: int, bits: int) -> int:
         raise BadValue(f"{what} is out of its range: {value}")
     return value
 
+
+# for how many milliseconds a place that comes back asks the others which list is the latest
+PEERS_WITHIN = 2_000
+# how many lives and numbers are left when a list ends by itself, where one of them isn't said
+LIVES_LEFT, NUMBERS_LEFT = 1, 1_000_000
 
 # settings that are numbers: the call's name, and how many bits it takes
 _NUMBERS = {"resilience": 8, "window": 16, "pb_up_to": 16, "most_waiting": 63, "most_unreceived": 63, "datagram": 63}
@@ -119,9 +147,32 @@ def _set_all(handle: ctypes.c_void_p, config: Config) -> Iterator[int]:
         yield LIBRARY.muoswyld_config_least(handle, _number("least", config.least, 8))
     if config.journal is not None:
         yield LIBRARY.muoswyld_config_journal(handle, os.fsencode(config.journal))
+    yield from _set_failures(handle, config)
     yield LIBRARY.muoswyld_config_tick(handle, _number("tick", milliseconds(config.tick), 32))
     yield LIBRARY.muoswyld_config_spin(handle, _number("spin", int(config.spin * 1e6), 32))
     yield LIBRARY.muoswyld_config_start_within(handle, milliseconds(config.start_within))
+    if config.next_life:
+        yield LIBRARY.muoswyld_config_next_life(handle, PEERS_WITHIN)
+
+
+def _set_failures(handle: ctypes.c_void_p, config: Config) -> Iterator[int]:
+    """Sets what says who has stopped and when lists end, and gives what each call answers."""
+    if config.state is not None:
+        yield LIBRARY.muoswyld_config_state(handle, os.fsencode(config.state))
+    if config.voters is not None:
+        yield LIBRARY.muoswyld_config_voters(handle, config.voters.encode())
+    if config.policy in ("told", "echo"):
+        yield getattr(LIBRARY, f"muoswyld_config_{config.policy}")(handle)
+    elif config.policy == "lease":
+        yield LIBRARY.muoswyld_config_lease(handle, _number("lease", milliseconds(config.lease), 32), _number("drift", config.drift, 32))
+    elif config.policy == "command" and config.fence is not None:
+        yield LIBRARY.muoswyld_config_command(handle, os.fsencode(config.fence), _number("fence_within", milliseconds(config.fence_within), 32))
+    elif config.policy is not None:
+        raise BadValue(f"{config.policy!r} is no policy, or has no program: told, echo, lease, or command with a fence")
+    limits = (config.succeed_at_lives, config.succeed_at_numbers)
+    if limits != (None, None):
+        lives, numbers = (default if said is None else said for said, default in zip(limits, (LIVES_LEFT, NUMBERS_LEFT), strict=True))
+        yield LIBRARY.muoswyld_config_succeed_at(handle, _number("succeed_at_lives", lives, 8), _number("succeed_at_numbers", numbers, 32))
 
 
 @contextlib.contextmanager

@@ -180,6 +180,12 @@ class Otherwise(MuoswyldError):
     status = 32
 
 
+class BadState(MuoswyldError):
+    """The place's folder of state isn't made, isn't the place's, is used by another process, or says that the life was begun before."""
+
+    status = 33
+
+
 # numbers of statuses that are no errors of Python callers
 OK, NULL_POINTER, TIMEOUT, EMPTY, FULL, ENDED = 0, 1, 10, 11, 12, 17
 

@@ -124,8 +124,21 @@ class Group:
 
     @classmethod
     def start(cls, config: Config) -> Self:
-        """Creates a group or joins one, as the name says: a founder's first life creates, any other name joins."""
-        return cls.create(config) if _is_founder(config) else cls.join(config)
+        """Creates a group or joins one, as the name says: a founder's first life creates, any other name joins. With `next_life` it is the place's next life,
+        which `name` says. It raises BadState, and what `create` and `join` raise."""
+        handle = wait_for(lambda: _started(config, LIBRARY.muoswyld_group_start), LIBRARY.muoswyld_group_free)
+        group = cls(handle, Name.of(config.name))
+        if config.next_life:
+            group._name = group.info().name
+        return group
+
+    @staticmethod
+    def found(config: Config) -> None:
+        """Makes the folder of state of a name that runs for the first time: once for each place, when the group is founded, with the config with which it will
+        run. It raises BadState if the folder has a state already or can't be made, BadValue, and what else `create` raises for a config."""
+        with opened(config) as handle:
+            status = LIBRARY.muoswyld_group_found(handle)
+            check(status, said_of(handle) if status else "")
 
     @contextlib.contextmanager
     def _used(self) -> Iterator[ctypes.c_void_p]:

@@ -55,7 +55,8 @@ impl Shell {
                 // what is held is dropped
                 Deed::Ended { why, .. } => {
                     return Some(match why {
-                        Ending::GivenUp => End::LeftOut,
+                        Ending::GivenUp | Ending::Unserved => End::LeftOut,
+                        Ending::Superseded => End::Superseded,
                         Ending::NotBegun => End::NotBegun,
                     })
                 }

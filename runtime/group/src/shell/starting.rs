@@ -92,20 +92,23 @@ pub(super) fn own_address(config: &Config) -> Result<std::net::SocketAddr, Creat
 /// What a member begins with: what guards it, what is done beside it, and its journal if it keeps one.
 pub(super) type Begun = (Guarded, Fencing, Option<File>);
 
-/// A member that begins, what guards its place, and its journal. A name that doesn't begin has none. The place's folder is locked, and
-/// that the life begins is on disk, before anything of it can be seen.
+/// The place's folder of state, locked.
+pub(super) fn state_of(config: &Config) -> Result<Option<State>, CreateError> {
+    let taken = |folder| State::take(folder, config.name.place());
+    Ok(config.failures.state.as_deref().map(taken).transpose()?)
+}
+
+/// A member that begins, what guards its place, and its journal. A name that doesn't begin has none. That the life begins is on disk before
+/// anything of it can be seen.
 pub(super) fn begun(
     settings: Settings,
     now: Time,
     config: &Config,
     shared: Arc<Shared>,
+    mut state: Option<State>,
 ) -> Result<Begun, CreateError> {
     let core = config.failure_settings(settings.process)?;
     let member = Generations::new(settings.clone(), now)?;
-    let mut state = match &config.failures.state {
-        Some(folder) => Some(State::take(folder, config.name.place())?),
-        None => None,
-    };
     let voter = match &state {
         Some(state) => state.voter(config.generation())?,
         None => None,

@@ -1,12 +1,12 @@
 //! What a member's thread does for lists that follow one another.
 
 use super::starting::journal_of;
-use super::Shell;
+use super::{Shell, Waiter};
 use crate::asking;
 use crate::error::{End, SucceedError, ToldError};
 use crate::later::LaterList;
 use crate::next::{is_as_asked, NextList};
-use crate::shared::{Succeeded, Told};
+use crate::shared::{Command, Succeeded, Told};
 use crate::slot::Slot;
 use muoswyld::names::Name;
 use muoswyld_member::{Before, Delivery, HandleError, Input, Next, Successor};
@@ -40,6 +40,38 @@ impl Shell {
     pub(super) fn not_succeeded(&mut self) {
         for ender in self.enders.drain(..) {
             ender.slot.fill(Err(SucceedError::NotSucceeded));
+        }
+    }
+
+    /// How many bytes of messages may be taken of callers: none as long as one waits that was taken before.
+    pub(super) fn room(&self) -> usize {
+        match self.put_off.is_empty() {
+            true => self.member.free(),
+            false => 0,
+        }
+    }
+
+    /// Does what a caller wants after what it wanted before.
+    pub(super) fn do_in_order(&mut self, command: Command) {
+        match command {
+            command if !self.put_off.is_empty() => self.put_off.push_back(command),
+            Command::Send { message, slot } => self.send(message, slot),
+            _ => self.handle(Input::Leave),
+        }
+    }
+
+    /// The list has ended since a message was taken, and there was room for it then: it waits for the next one.
+    pub(super) fn put_off(&mut self, ticket: u64, message: Vec<u8>) {
+        if let Some(Waiter::Send(slot)) = self.waiters.remove(&ticket) {
+            self.put_off.push_front(Command::Send { message, slot });
+        }
+    }
+
+    /// Does what was put off, as far as there is room.
+    pub(super) fn do_put_off(&mut self) {
+        for command in std::mem::take(&mut self.put_off) {
+            // after one for which there is no room all others wait
+            self.do_in_order(command);
         }
     }
 

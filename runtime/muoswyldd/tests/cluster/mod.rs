@@ -170,6 +170,26 @@ impl Cluster {
         members.iter().map(name).collect()
     }
 
+    /// Prints how each member stands, and which files each place has.
+    fn show(&self) {
+        let asked = Some(Duration::from_secs(2));
+        for (name, _) in &self.children {
+            let Ok(stream) = UnixStream::connect(self.file("socket", name)) else {
+                println!("---- {name} doesn't listen");
+                continue;
+            };
+            let _set = stream.set_read_timeout(asked);
+            let status = Caller(BufReader::new(stream)).ask("status");
+            println!("---- {name}: {}", status.unwrap_or_default());
+        }
+        for place in 0..4 {
+            let files = fs::read_dir(self.path(&format!("state{place}")));
+            let names = files.into_iter().flatten().flatten();
+            let names: Vec<_> = names.map(|file| file.file_name()).collect();
+            println!("---- state{place}: {names:?}");
+        }
+    }
+
     pub fn log(&self, name: &str) -> String {
         fs::read_to_string(self.file("err", name)).unwrap()
     }
@@ -177,6 +197,9 @@ impl Cluster {
 
 impl Drop for Cluster {
     fn drop(&mut self) {
+        if std::thread::panicking() {
+            self.show();
+        }
         for (name, child) in &mut self.children {
             let _ended = child.kill();
             let _ended = child.wait();

@@ -120,6 +120,20 @@ impl Cluster {
         self.submit(name, asked, request)
     }
 
+    /// Whether somebody waits for the state, and isn't told that it is lost.
+    pub(super) fn are_waited_for(&self) -> bool {
+        let mut waiting = self.waiting.values();
+        !self.is_lost && waiting.any(Option::is_some)
+    }
+
+    /// At times a life ends the list while somebody waits for the state.
+    pub(super) fn look_at_end(&mut self, name: Name, is_calm: bool, draw: &mut Draw) {
+        let wants = self.setting.ends_amid > 0 && self.are_waited_for();
+        if wants && !is_calm && draw.per_mille(500) {
+            self.ends_by = Some(name);
+        }
+    }
+
     /// Reads by a life: what was answered before is seen.
     pub(super) fn read(&mut self, name: Name, draw: &mut Draw) -> Result<(), String> {
         let last = self.answers.last_key_value().map(|(id, _)| *id);

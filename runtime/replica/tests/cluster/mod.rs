@@ -3,16 +3,18 @@
 mod acts;
 pub mod client;
 pub mod ledger;
+#[allow(dead_code)] // each program of tests runs some of them
+pub mod lists;
+#[allow(dead_code)] // each program of tests runs some of them
 pub mod plans;
+mod serving;
 
 use client::Client;
-use ledger::{command, Ledger};
-use muoswyld_member::{Delivery, Info, Name, Position};
+use ledger::Ledger;
+use muoswyld_member::{Info, Name, Names, Position};
 use muoswyld_replica::{
     Answer, Ended, Output, Plant, Replica, Request, SessionId, Settings, StateMachine,
 };
-use muoswyld_simulator::draw::Draw;
-use muoswyld_simulator::Services;
 use std::collections::{BTreeMap, BTreeSet, VecDeque};
 
 /// What a token is for.
@@ -49,6 +51,10 @@ pub struct Setting {
     pub plant: Option<Plant>,
     /// The life whose machine strays.
     pub strays: Option<Name>,
+    /// Whether those to whom the state is lost stay: voters that leave would take their votes with them. Then who joins later isn't told.
+    pub lost_stay: bool,
+    /// How often the list is ended while somebody waits for the state.
+    pub ends_amid: u32,
 }
 
 /// The most commands of a client that aren't answered: as many answers are kept.
@@ -61,14 +67,28 @@ struct Life {
     asked: BTreeMap<u64, Asked>,
     knows_members: bool,
     is_lost: bool,
+    /// Its name in each list, as far as its member has come.
+    names: BTreeMap<u32, Name>,
+}
+
+impl Life {
+    /// Its name in a list, or the one that it will have there if it comes to it.
+    fn name_in(&self, generation: u32) -> Option<Name> {
+        let known = self.names.get(&generation).copied();
+        let (latest, name) = self.names.last_key_value()?;
+        known.or_else(|| match *latest < generation {
+            true => Name::first(name.place()),
+            false => None,
+        })
+    }
 }
 
 /// All replicas and clients of a run.
 pub struct Cluster {
     setting: Setting,
-    founders: muoswyld_member::Names,
     lives: BTreeMap<Name, Life>,
-    waiting: BTreeSet<Name>,
+    /// Those that haven't the state yet, with their Joins if they aren't founders.
+    waiting: BTreeMap<Name, Option<Position>>,
     clients: Vec<Client>,
     tokens: u64,
     ids: u64,
@@ -86,10 +106,19 @@ pub struct Cluster {
     pub reads: usize,
     /// How many commands were answered again.
     pub repeated: usize,
+    /// How many joiners got the state in a later list than that of their Joins.
+    pub served_later: usize,
+    /// Whether the list is to be ended by a life now.
+    ends_by: Option<Name>,
+    /// The lists that have ended.
+    ended: BTreeSet<u32>,
+    /// How many ends of lists were applied, and with how many requests under way.
+    pub ends: usize,
+    pub under_way: usize,
 }
 
 impl Cluster {
-    pub fn new(setting: Setting, founders: muoswyld_member::Names) -> Cluster {
+    pub fn new(setting: Setting) -> Cluster {
         let client = Client {
             budget: setting.commands,
             ..Client::default()
@@ -97,9 +126,8 @@ impl Cluster {
         Cluster {
             clients: vec![client; setting.clients],
             setting,
-            founders,
             lives: BTreeMap::new(),
-            waiting: BTreeSet::new(),
+            waiting: BTreeMap::new(),
             tokens: 0,
             ids: 0,
             opened: 0,
@@ -109,6 +137,11 @@ impl Cluster {
             served: 0,
             reads: 0,
             repeated: 0,
+            served_later: 0,
+            ends_by: None,
+            ended: BTreeSet::new(),
+            ends: 0,
+            under_way: 0,
         }
     }
 
@@ -118,14 +151,26 @@ impl Cluster {
         self.answers.len()
     }
 
-    fn new_life(&self, name: Name, list: u64) -> Life {
+    /// How replicas stand, a line each.
+    #[allow(dead_code)] // one of the programs of tests tells it
+    pub fn shown(&self) -> String {
+        let lives = self.lives.iter();
+        let lines = lives.map(|(name, life)| {
+            let (lost, asked, sends) = (life.is_lost, life.asked.len(), life.sends.len());
+            let status = life.replica.status();
+            format!("{name}: lost {lost}, {asked} asked, {sends} to send, {status:?}\n")
+        });
+        lines.collect()
+    }
+
+    fn new_life(&self, name: Name, list: u64, is_founder: bool) -> Life {
         let mut settings = Settings::new(name, list);
         settings.check_every = self.setting.check_every;
         settings.most_sessions = self.setting.most_sessions;
         settings.most_answers = AHEAD as u32;
         settings.chunks_ahead = self.setting.chunks_ahead;
         settings.plant = self.setting.plant;
-        let mut machine = match self.founders.has(name) {
+        let mut machine = match is_founder {
             true => Ledger::founded(self.setting.ballast),
             false => Ledger::default(),
         };
@@ -136,6 +181,7 @@ impl Cluster {
             asked: BTreeMap::new(),
             knows_members: false,
             is_lost: false,
+            names: BTreeMap::new(),
         }
     }
 
@@ -172,8 +218,12 @@ impl Cluster {
                     self.answer(name, token, asked, answer)?;
                 }
                 Output::Ready => {
-                    self.served += usize::from(!self.founders.has(name));
-                    self.waiting.remove(&name);
+                    if let Some(joined) = self.waiting.remove(&name).flatten() {
+                        let given = life.replica.status().given;
+                        self.served += 1;
+                        self.served_later +=
+                            usize::from(given.is_some_and(|it| it.generation > joined.generation));
+                    }
                 }
                 Output::Told(_) => {}
                 Output::Ended(Ended::Lost) => self.lost(name, info)?,
@@ -205,11 +255,16 @@ impl Cluster {
 
     /// A replica says that the state is lost: nobody may have it who is a member.
     fn lost(&mut self, name: Name, info: Option<&Info>) -> Result<(), String> {
-        let members = info.map(|info| info.standing.members).unwrap_or_default();
+        let known = info.map(|info| (info.generation, info.standing.members));
+        let (generation, members) = known.unwrap_or((0, Names::nobody()));
+        let is_member = |life: &Life| {
+            let name = life.name_in(generation);
+            name.is_some_and(|name| members.has(name))
+        };
         let holder = self
             .lives
             .iter()
-            .find(|(other, life)| members.has(**other) && life.replica.machine().is_some());
+            .find(|(_, life)| is_member(life) && life.replica.machine().is_some());
         if let Some((holder, _)) = holder {
             return Err(format!(
                 "{name} says that the state is lost, and {holder} has it"
@@ -258,6 +313,11 @@ impl Cluster {
             (asked, answer) => return Err(format!("{asked:?} was answered {answer:?}")),
         }
         Ok(())
+    }
+
+    /// Whether a joiner may wait for good: the state is lost, and a member that knows it says nothing more.
+    fn may_wait(&self) -> bool {
+        self.is_lost && self.setting.lost_stay
     }
 
     /// A command of a session was answered.
@@ -311,111 +371,6 @@ impl Cluster {
             };
         }
         self.answers.insert(id, answer);
-        Ok(())
-    }
-}
-
-impl Services for Cluster {
-    fn begins(&mut self, name: Name) {
-        // the group's id comes with the first delivery
-        let _ = name;
-    }
-
-    fn delivered(&mut self, name: Name, delivery: &Delivery, info: &Info) -> Result<(), String> {
-        if !self.lives.contains_key(&name) {
-            let list = info.group.ok_or("a member delivers without a group")?;
-            let life = self.new_life(name, list);
-            self.lives.insert(name, life);
-            self.waiting.insert(name);
-        }
-        let Some(life) = self.lives.get_mut(&name) else {
-            return Ok(());
-        };
-        if life.is_lost {
-            return Ok(());
-        }
-        life.replica.deliver(delivery.clone());
-        if !std::mem::replace(&mut life.knows_members, true) {
-            let standing = info.standing;
-            life.replica.know_members(standing.top, standing.members);
-        }
-        self.pump(name, Some(info))
-    }
-
-    fn next_message(&mut self, name: Name) -> Option<Vec<u8>> {
-        self.lives.get_mut(&name)?.sends.pop_front()
-    }
-
-    fn acts(
-        &mut self,
-        name: Name,
-        _now: u64,
-        is_calm: bool,
-        draw: &mut Draw,
-    ) -> Result<(), String> {
-        match self.lives.get_mut(&name) {
-            Some(life) if !life.is_lost => {
-                if draw.per_mille(self.setting.stalled) {
-                    life.replica.stalled();
-                    self.pump(name, None)?;
-                }
-            }
-            _ => return Ok(()),
-        }
-        for k in 0..self.clients.len() {
-            self.client_acts(k, name, is_calm, draw)?;
-        }
-        if self
-            .lives
-            .get(&name)
-            .is_none_or(|life| life.asked.len() > 20)
-        {
-            return Ok(());
-        }
-        if !is_calm && draw.per_mille(200) {
-            self.read(name, draw)?;
-        }
-        if !is_calm && draw.per_mille(100) {
-            let (id, length) = (self.new_id(), self.length(draw));
-            let request = Request::Command(command(id, 7, 0, length));
-            self.submit(name, Asked::Plain(id), request)?;
-        }
-        Ok(())
-    }
-
-    fn leaves(&self, name: Name) -> bool {
-        self.lives.get(&name).is_some_and(|life| life.is_lost)
-    }
-
-    fn ended(&mut self, name: Name) {
-        self.lives.remove(&name);
-        self.waiting.remove(&name);
-        for client in &mut self.clients {
-            client.has_ended(name);
-        }
-    }
-
-    fn is_at_rest(&self, running: &[Name]) -> bool {
-        let is_quiet = |life: &Life| life.sends.is_empty() && life.asked.is_empty();
-        let all = running.iter().filter_map(|name| self.lives.get(name));
-        self.waiting.is_empty()
-            && all.clone().all(|life| life.is_lost || is_quiet(life))
-            && (self.lives.is_empty() || self.is_lost || self.clients.iter().all(Client::is_idle))
-    }
-
-    fn check(&mut self, is_over: bool) -> Result<(), String> {
-        let ready = self.lives.iter().filter(|(_, life)| !life.is_lost);
-        for (name, life) in ready.filter(|_| !is_over) {
-            let Some(machine) = life.replica.machine() else {
-                return Err(format!("{name} hasn't the state"));
-            };
-            for (id, answer) in &self.answers {
-                match machine.done.get(id) {
-                    Some(done) if done.answer == *answer => {}
-                    _ => return Err(format!("{name} hasn't command {id} as it was answered")),
-                }
-            }
-        }
         Ok(())
     }
 }

@@ -107,12 +107,14 @@ pub fn setting_of(seed: u64) -> Setting {
         stalled: draw.one_of(&[0, 30, 200]).unwrap_or(0),
         plant: None,
         strays: None,
+        lost_stay: false,
+        ends_amid: 0,
     }
 }
 
 /// Runs a plan with replicas; what was found, and the replicas at the end.
 pub fn run_replicas(plan: &Plan, setting: Setting) -> (Result<Report, Failure>, Cluster) {
-    let mut cluster = Cluster::new(setting, plan.founding.founders);
+    let mut cluster = Cluster::new(setting);
     let ran = run_with(plan, &mut cluster);
     (ran, cluster)
 }

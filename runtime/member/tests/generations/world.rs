@@ -1,5 +1,4 @@
-//! Groups whose lists follow one another, by seeds: virtual time, losses, repeats, delays, crashes that are told, joiners, ends of lists amid all
-//! that. Checked is what applications saw: one list over all generations. Planted defects are found.
+//! A group of processes on virtual time, and what is checked of what their applications saw.
 
 use muoswyld_member::{
     Delivery, End, Founding, Generations, HandleError, Input, Name, Next, Output, Plant, Position,
@@ -8,10 +7,10 @@ use muoswyld_member::{
 use std::collections::{BTreeMap, BTreeSet, VecDeque};
 
 /// Numbers by chance, from a seed.
-struct Draw(u64);
+pub struct Draw(u64);
 
 impl Draw {
-    fn below(&mut self, most: u64) -> u64 {
+    pub fn below(&mut self, most: u64) -> u64 {
         self.0 = self
             .0
             .wrapping_mul(6_364_136_223_846_793_005)
@@ -25,7 +24,7 @@ impl Draw {
 }
 
 /// One process: a member, and what its application saw.
-struct Process {
+pub struct Process {
     place: u8,
     member: Generations,
     /// Its name in each list.
@@ -35,7 +34,6 @@ struct Process {
     tickets: BTreeMap<u64, Vec<u8>>,
     ended: Option<End>,
     crashed: bool,
-    began: u64,
 }
 
 /// A list of the group: its founding, its id, and how many lives each place has had in it.
@@ -45,12 +43,12 @@ struct List {
     lives: BTreeMap<u8, u8>,
 }
 
-struct World {
-    draw: Draw,
-    now: u64,
+pub struct World {
+    pub draw: Draw,
+    pub now: u64,
     loss: u64,
     plant: Option<Plant>,
-    processes: Vec<Process>,
+    pub processes: Vec<Process>,
     lists: Vec<List>,
     ends: BTreeMap<u32, Successor>,
     /// Datagrams on their way: when they come, to which place, of which process.
@@ -59,7 +57,8 @@ struct World {
     settled: BTreeMap<Vec<u8>, Position>,
     /// Who is to be told of a crash: when, of which process.
     tellings: VecDeque<(u64, usize)>,
-    cuts: usize,
+    /// How many lists ended.
+    pub cuts: usize,
 }
 
 /// The bytes of a message: the process, its number, and some more.
@@ -118,7 +117,7 @@ fn is_piece(process: &Process, list: &BTreeMap<Position, &Vec<u8>>) -> Result<()
 }
 
 impl World {
-    fn new(seed: u64, plant: Option<Plant>) -> World {
+    pub fn new(seed: u64, plant: Option<Plant>) -> World {
         let mut draw = Draw(seed.wrapping_mul(0x9e37_79b9_7f4a_7c15));
         let places = 2 + draw.below(4) as u8;
         let resilience = if places > 2 { draw.below(2) as u8 } else { 0 };
@@ -175,7 +174,6 @@ impl World {
             tickets: BTreeMap::new(),
             ended: None,
             crashed: false,
-            began: self.now,
         });
     }
 
@@ -199,7 +197,7 @@ impl World {
     }
 
     /// Takes what a process gives out.
-    fn release(&mut self, k: usize) -> Result<(), String> {
+    pub fn release(&mut self, k: usize) -> Result<(), String> {
         let mut out = Vec::new();
         self.processes[k].member.release(Time(self.now), &mut out);
         let mut taken = 0;
@@ -221,7 +219,7 @@ impl World {
                 }
                 Output::Settled { ticket, result } => self.settle(k, ticket, result)?,
                 Output::Succeeded(next) => self.succeeded(k, generation, next)?,
-                Output::Ended(end) => self.processes[k].ended = Some(end),
+                Output::Ended(end) => self.ended(k, end)?,
                 Output::ResetDone { .. } | Output::Journal(_) | Output::Told(_) => {}
             }
         }
@@ -252,6 +250,17 @@ impl World {
         }
         self.settled.insert(message, at);
         Ok(())
+    }
+
+    /// A process has ended. Its list has ended, if it says so.
+    fn ended(&mut self, k: usize, end: End) -> Result<(), String> {
+        let process = &mut self.processes[k];
+        process.ended = Some(end);
+        let generation = process.member.generation();
+        match end == End::Superseded && !self.ends.contains_key(&generation) {
+            true => Err(format!("{k} says that list {generation} has ended")),
+            false => Ok(()),
+        }
     }
 
     /// A process came to the end of a list: all come to the same one.
@@ -303,7 +312,7 @@ impl World {
     }
 
     /// Goes on to a time.
-    fn go_to(&mut self, until: u64) -> Result<(), String> {
+    pub fn go_to(&mut self, until: u64) -> Result<(), String> {
         loop {
             let wakes = self
                 .running()
@@ -343,7 +352,7 @@ impl World {
     }
 
     /// One act by chance.
-    fn act(&mut self) -> Result<(), String> {
+    pub fn act(&mut self) -> Result<(), String> {
         let running = self.running();
         let Some(k) = running
             .get(self.draw.below(running.len() as u64) as usize)
@@ -421,19 +430,7 @@ impl World {
 
     /// A place without a process has its next life, in the latest list.
     fn come_back(&mut self) -> Result<(), String> {
-        let running = self.running();
-        // who asks in a list that has ended asks in vain
         let late = self.lists.len() as u32 - 1;
-        for k in running {
-            let process = &self.processes[k];
-            if process.seen.is_empty()
-                && process.member.generation() < late
-                && self.now > process.began + 300_000
-            {
-                self.processes[k].crashed = true;
-                self.tellings.push_back((self.now, k));
-            }
-        }
         let taken: BTreeSet<u8> = self
             .running()
             .iter()
@@ -469,7 +466,7 @@ impl World {
     }
 
     /// Each application saw a piece of one list, each message stands once, in its sender's order, and nothing beyond a list's end.
-    fn check(&self) -> Result<(), String> {
+    pub fn check(&self) -> Result<(), String> {
         let list = self.list()?;
         for (k, process) in self.processes.iter().enumerate() {
             is_piece(process, &list).map_err(|what| format!("{k}: {what}"))?;
@@ -508,7 +505,7 @@ impl World {
     }
 
     /// With nothing lost any more all come to rest: in one list, with all that was sent delivered.
-    fn rest(&mut self) -> Result<(), String> {
+    pub fn rest(&mut self) -> Result<(), String> {
         self.loss = 0;
         for _ in 0..400 {
             self.go_to(self.now + 50_000)?;
@@ -517,7 +514,7 @@ impl World {
                 let process = &self.processes[k];
                 let is_joiner = process.seen.is_empty();
                 let done = process.tickets.is_empty() && process.member.ended_lists() == 0;
-                is_joiner || (done && process.member.generation() == latest)
+                (is_joiner || done) && process.member.generation() == latest
             };
             if self.running().into_iter().all(at_rest) {
                 return Ok(());
@@ -537,84 +534,4 @@ impl World {
         let standing: Vec<String> = self.running().iter().map(told).collect();
         Err(format!("it doesn't come to rest: {}", standing.join("; ")))
     }
-}
-
-/// Runs a seed; how many lists there were, and how many processes.
-fn run(seed: u64, plant: Option<Plant>) -> Result<(usize, usize), String> {
-    let mut world = World::new(seed, plant);
-    for k in 0..world.processes.len() {
-        world.release(k)?;
-    }
-    world.go_to(50_000)?;
-    for _ in 0..150 {
-        let wait = world.draw.below(8_000);
-        world.go_to(world.now + wait)?;
-        world.act()?;
-    }
-    world.check()?;
-    let rests = world.rest();
-    world.check()?;
-    rests?;
-    Ok((world.cuts, world.processes.len()))
-}
-
-/// How many seeds the test runs.
-fn seeds() -> u64 {
-    std::env::var("SEEDS")
-        .ok()
-        .and_then(|text| text.parse().ok())
-        .unwrap_or(200)
-}
-
-#[test]
-fn lists_follow_one_another() {
-    let (mut cuts, mut processes, mut failed) = (0, 0, Vec::new());
-    for seed in 1..=seeds() {
-        match run(seed, None) {
-            Ok((more, others)) => {
-                cuts += more;
-                processes += others;
-            }
-            Err(what) => failed.push(format!("seed {seed}: {what}")),
-        }
-    }
-    println!("{cuts} lists ended, {processes} processes");
-    assert!(
-        failed.is_empty(),
-        "{} failed: {}",
-        failed.len(),
-        failed.join("\n")
-    );
-    assert!(cuts as u64 > seeds());
-}
-
-/// The first seed that finds a defect, and what it finds.
-fn found(plant: Plant) -> (u64, String) {
-    for seed in 1..=1_000 {
-        if let Err(what) = run(seed, Some(plant)) {
-            println!("{plant:?} is found by seed {seed}: {what}");
-            return (seed, what);
-        }
-    }
-    panic!("{plant:?} isn't found");
-}
-
-#[test]
-fn a_list_that_ends_one_entry_late() {
-    found(Plant::EndsListLate);
-}
-
-#[test]
-fn a_message_that_is_sent_anew_though_it_was_delivered() {
-    found(Plant::SendsAllAnew);
-}
-
-#[test]
-fn founders_at_the_top_of_the_list() {
-    found(Plant::FoundersAtTop);
-}
-
-#[test]
-fn a_joiner_that_nobody_confirmed() {
-    found(Plant::TakesUnconfirmed);
 }
