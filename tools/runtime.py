@@ -6,8 +6,8 @@
     tools/runtime.py load          builds a member under load too, which bench/peers measures
 
 If the node's library isn't there, it makes it first (tools/library.py). The other libraries come from Debian's packages. If some are missing,
-it installs them if root runs it, and otherwise names them in a line. With CRATES_IO=1 cargo takes them from crates.io. With MUOSWYLD_UNPROVED=1
-it makes and takes a library of which nothing is proved.
+it installs them if root runs it, and otherwise names them in a line. With CRATES_IO=1 cargo takes them from its default registry.
+With MUOSWYLD_UNPROVED=1 it makes and takes a library of which nothing is proved.
 """
 
 import os
@@ -51,7 +51,7 @@ def install() -> None:
         return
     command = ["apt-get", "install", "-y", "--no-install-recommends", *packages]
     if os.geteuid() != 0 or shutil.which("apt-get") is None:
-        raise Missing(f"packages of Debian are missing, or CRATES_IO=1 for crates.io: {' '.join(command)}")
+        raise Missing(f"packages of Debian are missing, or CRATES_IO=1 for cargo's default registry: {' '.join(command)}")
     quiet: dict[str, Any] = {"stdout": subprocess.DEVNULL, "stderr": subprocess.DEVNULL}
     subprocess.run(["apt-get", "update"], check=False, **quiet)
     subprocess.run(command, check=False, env={**os.environ, "DEBIAN_FRONTEND": "noninteractive"}, **quiet)
