@@ -2,6 +2,7 @@
 
 import argparse
 import asyncio
+import dataclasses
 import inspect
 import itertools
 import os
@@ -84,6 +85,17 @@ def messages(group: Group, many: int) -> list[Message]:
     return found
 
 
+def succeed(group: Group, **change: int) -> Position:
+    """Ends the list, and asks again as long as that can't be now: a member may be silent for a moment."""
+    ends = time.monotonic() + SOON
+    while time.monotonic() < ends:
+        try:
+            return group.succeed(timeout=SOON, **change)
+        except (muoswyld.NotNow, muoswyld.NotSucceeded):
+            time.sleep(0.05)
+    raise AssertionError("the list doesn't end")
+
+
 class Groups(unittest.TestCase):
     """Groups of members in this process."""
 
@@ -114,7 +126,7 @@ class Groups(unittest.TestCase):
         groups = three(addresses())
         try:
             tickets = [groups[0].submit(b"%d" % k) for k in range(50)]
-            end = groups[1].succeed(window=99, timeout=SOON)
+            end = succeed(groups[1], window=99)
             self.assertEqual(end.generation, 0)
             tickets += [groups[2].submit(b"after %d" % k) for k in range(10)]
             positions = [ticket.wait(SOON) for ticket in tickets]
@@ -135,7 +147,7 @@ class Groups(unittest.TestCase):
             self.assertEqual([delivery.at for delivery in logs[0]], sorted(delivery.at for delivery in logs[0]))
             for wrong in ({"window": 0}, {"window": 1009}, {"resilience": 16}, {"pb_up_to": -1}, {"pb_up_to": 70_000}):
                 with self.assertRaises(muoswyld.BadValue):
-                    groups[0].succeed(timeout=SOON, **wrong)
+                    succeed(groups[0], **wrong)
         finally:
             for group in groups:
                 group.close()
@@ -165,24 +177,13 @@ class Groups(unittest.TestCase):
                     self.assertEqual(back.name, Name(2, 2))
                     back.send(b"back", SOON)
                     self.assertEqual(messages(groups[0], 1)[0].message, b"back")
-                self.succeed(groups[0])
+                succeed(groups[0])
                 with Group.start(config("2", where, next_life=True, **more[2])) as again:
                     self.assertEqual((again.name, again.info().generation), (Name(2), 1))
                     again.send(b"again", SOON)
             finally:
                 for group in groups:
                     group.close()
-
-    def succeed(self, group: Group) -> None:
-        """Ends the list, and again as long as that can't be now."""
-        ends = time.monotonic() + SOON
-        while True:
-            try:
-                group.succeed(timeout=SOON)
-                return
-            except (muoswyld.NotNow, muoswyld.NotSucceeded):
-                self.assertLess(time.monotonic(), ends)
-                time.sleep(0.05)
 
     def test_a_list_ends_by_itself(self) -> None:
         """A list ends once as few numbers are left as the config says; a config says that within its limits."""
@@ -331,7 +332,9 @@ class Groups(unittest.TestCase):
 
     def test_ctrl_c(self) -> None:
         """Ctrl-C ends what waits: a founder that waits for the lowest one, one that receives, and a reset that isn't decided."""
-        begin = f"import muoswyld, threading\nwhere = {addresses()}\n"
+        # whoever runs these tests may ignore the signal
+        begin = "import muoswyld, signal\nsignal.signal(signal.SIGINT, signal.default_int_handler)\n"
+        begin += f"where = {addresses()}\n"
         begin += "config = lambda name, founders: muoswyld.Config(name, founders=founders, addresses=where, key=b'k' * 32)\n"
         lone = "group = muoswyld.Group.create(config('0', '0'))\n"
         waits = ["muoswyld.Group.create(config('1', '0,1'))", f"{lone}list(group)", f"{lone}group.wait()"]
@@ -377,6 +380,29 @@ class Loops(unittest.IsolatedAsyncioTestCase):
         self.assertGreater(await groups[1].reset_async(timeout=SOON), 1)
         for group in groups:
             group.close()
+
+    async def test_a_place_comes_back(self) -> None:
+        """A place comes back as its next life, whichever call starts it, and has that life's name; a life that was begun is refused."""
+        where = addresses()
+        with tempfile.TemporaryDirectory() as folder:
+            settings = [config(name, where, state=pathlib.Path(folder) / name) for name in "012"]
+            for each in settings:
+                Group.found(each)
+            groups = list(await asyncio.gather(*map(Group.start_async, settings)))
+            try:
+                for life, start in ((2, Group.start_async), (3, Group.join_async)):
+                    groups[2].close()
+                    with self.assertRaisesRegex(muoswyld.BadState, "2 was begun already"):
+                        await Group.start_async(settings[2])
+                    for group in groups[:2]:
+                        group.stopped(groups[2].name)
+                    groups[2] = await start(dataclasses.replace(settings[2], next_life=True))
+                    self.assertEqual((groups[2].name, groups[2].info().name), (Name(2, life), Name(2, life)))
+                    await groups[2].send_async(b"back %d" % life)
+                    self.assertEqual(messages(groups[0], 1)[0].message, b"back %d" % life)
+            finally:
+                for group in groups:
+                    group.close()
 
     async def test_sends_alone(self) -> None:
         """Sends go on though nobody receives meanwhile, and what they hold is received after."""

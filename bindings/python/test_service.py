@@ -4,13 +4,12 @@ import asyncio
 import contextlib
 import os
 import resource
-import time
 import unittest
 from collections.abc import Iterator
 
 import muoswyld
 from muoswyld import Ended, Group, Name, Position, Service, View
-from test_group import SOON, addresses, config, one, three
+from test_group import SOON, addresses, config, one, succeed, three
 
 
 class Counter:
@@ -42,18 +41,6 @@ class Misreading(Counter):
     def restore(self, record: bytes) -> None:
         """Refuses it."""
         raise LookupError("as asked")
-
-
-def end_list(group: Group) -> None:
-    """Ends a group's list, as soon as that may be."""
-    until = time.monotonic() + SOON
-    while time.monotonic() < until:
-        try:
-            group.succeed(timeout=SOON)
-            return
-        except (muoswyld.NotNow, muoswyld.NotSucceeded):
-            time.sleep(0.05)
-    raise AssertionError("the list doesn't end")
 
 
 def total(machine: Counter) -> int:
@@ -104,7 +91,7 @@ class Services(unittest.IsolatedAsyncioTestCase):
         given = []
         for group in groups:
             given += [service.submit(b"1") for service in services for _ in range(100)]
-            end_list(group)
+            succeed(group)
             given += [service.submit(b"1") for service in services for _ in range(100)]
         self.assertEqual(sorted(int(future.result(SOON)) for future in given), [*range(1, 1_801)])
         for service in services:

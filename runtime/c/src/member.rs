@@ -28,8 +28,9 @@ pub struct muoswyld_ticket(Ticket);
 
 impl Drop for muoswyld_group {
     fn drop(&mut self) {
-        // a service may still have it
+        // a service may still have it; who has freed it may start the place's next life
         self.group.stop();
+        self.group.wait();
     }
 }
 

@@ -362,20 +362,22 @@ impl Shell {
         }
     }
 
-    /// Ends the journal of a member that its caller stopped, and tells all who wait that the member has ended.
-    fn close(&mut self, end: &End) {
+    /// Ends the journal of a member that its caller stopped, frees its address and its folder, and tells all who wait that the member has ended.
+    fn close(mut self, end: &End) {
         if !matches!(end, End::Failed(_)) {
             self.end_journals(*end == End::Stopped);
         }
-        self.close_enders(end);
         self.shared.deliver(&mut self.deliveries);
+        let (info, failures) = (self.info(), self.failures());
+        // whoever is told of the end may start the place's next life at once
+        drop((self.udp, self.fencing));
         let left = self.shared.close(end);
-        for command in std::mem::take(&mut self.put_off).into_iter().chain(left) {
+        for command in self.put_off.into_iter().chain(left) {
             match command {
                 Command::Send { slot, .. } => slot.fill(Err(SendError::NotSent(end.clone()))),
                 Command::Reset { slot, .. } => slot.fill(Err(ResetError::Ended(end.clone()))),
-                Command::Info(slot) => slot.fill(self.info()),
-                Command::Failures(slot) => slot.fill(self.failures()),
+                Command::Info(slot) => slot.fill(info),
+                Command::Failures(slot) => slot.fill(failures.clone()),
                 Command::Stopped { slot, .. } => slot.fill(Err(ToldError::Ended(end.clone()))),
                 Command::Succeed { slot, .. } => slot.fill(Err(SucceedError::Ended(end.clone()))),
                 Command::Leave
@@ -385,14 +387,19 @@ impl Shell {
                 | Command::Fenced { .. } => {}
             }
         }
-        for (_, waiter) in self.waiters.drain() {
+        for ender in self.enders {
+            ender.close(end);
+        }
+        for waiter in self.waiters.into_values() {
             match waiter {
                 // the member was stopped, and the message may be under way
                 Waiter::Send(slot) => slot.fill(Err(SendError::Ended(end.clone()))),
                 Waiter::Reset(slot) => slot.fill(Err(ResetError::Ended(end.clone()))),
             }
         }
-        self.tell_arrival();
+        if let Some(call) = &self.on_arrival {
+            (call.0)(());
+        }
         tracing::info!("the member has ended: {end}");
     }
 }

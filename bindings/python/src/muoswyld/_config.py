@@ -94,7 +94,7 @@ class Config:
     """The place's folder of state, on a local disk, as `Group.found` makes it. With it no life runs twice, and no two processes of the place run at a time."""
     next_life: bool = False
     """Starts the place's next life that was never begun, in the latest list of the group: as its folder says, and the members at the other addresses. Its
-    place is that of the name. Start it by `Group.start`."""
+    place is that of the name. Start it by `Group.start` or `start_async`."""
     policy: str | None = None
     """What makes it certain that a name has stopped: "told", "echo", "lease" or "command" (docs/FAILURES.md). If it is None it is "echo" if voters and a folder
     of state are given, and else "told"."""

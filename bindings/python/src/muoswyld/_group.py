@@ -76,18 +76,28 @@ def _until(timeout: float | None, attempt: Callable[[float], _T | None]) -> _T:
             raise Timeout("the time passed")
 
 
-def _is_founder(config: Config) -> bool:
-    """Whether a member is one of the founders."""
-    return str(config.name) in config.founders.split(",")
+# the handle of a member, and its name
+_Started = tuple[ctypes.c_void_p, Name]
 
 
-def _started(config: Config, call: Callable[..., int]) -> ctypes.c_void_p:
-    """The handle of a member, once it is in its group."""
+def _started(config: Config, call: Callable[..., int]) -> _Started:
+    """A member, once it is in its group."""
     group = ctypes.c_void_p()
     with opened(config) as handle:
         status = call(handle, ctypes.byref(group))
         check(status, said_of(handle) if status else "")
-    return group
+    if not config.next_life:
+        return group, Name.of(config.name)
+    info = CInfo()
+    if status := LIBRARY.muoswyld_group_info(group, ctypes.byref(info)):
+        LIBRARY.muoswyld_group_free(group)
+        check(status)
+    return group, info_of(info).name
+
+
+def _free(started: _Started) -> None:
+    """Stops a member that nobody wants."""
+    LIBRARY.muoswyld_group_free(started[0])
 
 
 class Group:
@@ -112,25 +122,19 @@ class Group:
     def create(cls, config: Config) -> Self:
         """Creates a group, or takes part in creating it: the member's name is one of the founders. It returns once the member is in the group.
         It raises NoFounder, NoAddress, NoKey, BadName, BadAddress, BadValue, SystemRefused, Timeout or Ended."""
-        handle = wait_for(lambda: _started(config, LIBRARY.muoswyld_group_create), LIBRARY.muoswyld_group_free)
-        return cls(handle, Name.of(config.name))
+        return cls(*wait_for(lambda: _started(config, LIBRARY.muoswyld_group_create), _free))
 
     @classmethod
     def join(cls, config: Config) -> Self:
         """Joins a group: the member's name is none of the founders, or a later life of a founder's place. It is given what comes from its own
         join on. It raises IsFounder, and what `create` raises."""
-        handle = wait_for(lambda: _started(config, LIBRARY.muoswyld_group_join), LIBRARY.muoswyld_group_free)
-        return cls(handle, Name.of(config.name))
+        return cls(*wait_for(lambda: _started(config, LIBRARY.muoswyld_group_join), _free))
 
     @classmethod
     def start(cls, config: Config) -> Self:
         """Creates a group or joins one, as the name says: a founder's first life creates, any other name joins. With `next_life` it is the place's next life,
         which `name` says. It raises BadState, and what `create` and `join` raise."""
-        handle = wait_for(lambda: _started(config, LIBRARY.muoswyld_group_start), LIBRARY.muoswyld_group_free)
-        group = cls(handle, Name.of(config.name))
-        if config.next_life:
-            group._name = group.info().name
-        return group
+        return cls(*wait_for(lambda: _started(config, LIBRARY.muoswyld_group_start), _free))
 
     @staticmethod
     def found(config: Config) -> None:
@@ -409,19 +413,17 @@ class Group:
     @classmethod
     async def create_async(cls, config: Config) -> Self:
         """As `create`. If it is cancelled, the member is stopped."""
-        handle = await wait_in_loop(lambda: _started(config, LIBRARY.muoswyld_group_create), LIBRARY.muoswyld_group_free)
-        return cls(handle, Name.of(config.name))
+        return cls(*await wait_in_loop(lambda: _started(config, LIBRARY.muoswyld_group_create), _free))
 
     @classmethod
     async def join_async(cls, config: Config) -> Self:
         """As `join`. If it is cancelled, the member is stopped."""
-        handle = await wait_in_loop(lambda: _started(config, LIBRARY.muoswyld_group_join), LIBRARY.muoswyld_group_free)
-        return cls(handle, Name.of(config.name))
+        return cls(*await wait_in_loop(lambda: _started(config, LIBRARY.muoswyld_group_join), _free))
 
     @classmethod
     async def start_async(cls, config: Config) -> Self:
-        """As `start`."""
-        return await (cls.create_async(config) if _is_founder(config) else cls.join_async(config))
+        """As `start`. If it is cancelled, the member is stopped."""
+        return cls(*await wait_in_loop(lambda: _started(config, LIBRARY.muoswyld_group_start), _free))
 
     async def send_async(self, message: bytes) -> Position:
         """As `send`. For a limit in time use `asyncio.timeout`: the message may still be sent after it. Several may be under way; they are sent in the

@@ -24,6 +24,13 @@ pub(super) struct Ender {
     slot: Arc<Slot<Succeeded>>,
 }
 
+impl Ender {
+    /// Tells that the member has ended.
+    pub(super) fn close(self, end: &End) {
+        self.slot.fill(Err(SucceedError::Ended(end.clone())));
+    }
+}
+
 impl Shell {
     /// Asks the member to end the list.
     pub(super) fn succeed(&mut self, next: NextList, waits: bool, slot: Arc<Slot<Succeeded>>) {
@@ -211,13 +218,6 @@ impl Shell {
             if let Err(error) = self.end_journal(generation) {
                 tracing::error!("the journal's end can't be written: {error}");
             }
-        }
-    }
-
-    /// Tells those that wait for the end of the list that the member has ended.
-    pub(super) fn close_enders(&mut self, end: &End) {
-        for ender in self.enders.drain(..) {
-            ender.slot.fill(Err(SucceedError::Ended(end.clone())));
         }
     }
 }
