@@ -13,9 +13,9 @@ from collections.abc import Iterator
 
 sys.path.insert(0, str(pathlib.Path(__file__).resolve().parent.parent / "bench" / "peers"))
 
+from kv.resp import Client  # noqa: E402
+from kv.stores import PLACES, Failed, Stores  # noqa: E402
 from network import Network  # noqa: E402
-from resp import Client  # noqa: E402
-from stores import PLACES, Failed, Stores  # noqa: E402
 
 NEWNET = 0x40000000
 # times of the members in milliseconds, and after how many seconds of silence a name is suspected (docs/FAILURES.md, "Choosing times")

@@ -21,11 +21,10 @@ import tempfile
 import time
 from collections.abc import Callable
 
-import histories
-import linear
-from redis_lines import LINES, random_lines
-from resp import Client, Cut, Reply
-from stores import Failed, Stores, differences, free_port
+from kv import histories, linear
+from kv.redis_lines import LINES, random_lines
+from kv.resp import Client, Cut, Reply
+from kv.stores import Failed, Stores, differences, free_port
 from words import end, words
 
 TOP = pathlib.Path(__file__).resolve().parent.parent

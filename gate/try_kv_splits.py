@@ -16,11 +16,11 @@ import subprocess
 import sys
 import tempfile
 
-import histories
 from apart import Apart, Splits
+from kv import histories
+from kv.resp import Cut
+from kv.stores import Failed, differences
 from network import Network
-from resp import Cut
-from stores import Failed, differences
 from words import end, words
 
 TOP = pathlib.Path(__file__).resolve().parent.parent

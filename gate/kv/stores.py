@@ -6,7 +6,7 @@ import socket
 import subprocess
 import time
 
-from resp import Client, Cut
+from kv.resp import Client, Cut
 
 PLACES = (0, 1, 2)
 

@@ -5,9 +5,9 @@ import threading
 import time
 from collections.abc import Callable
 
-from linear import Asked, Value, is_linearizable, stale_reads
-from resp import Client, Cut, Reply, Wrong
-from stores import Failed, Stores
+from kv.linear import Asked, Value, is_linearizable, stale_reads
+from kv.resp import Client, Cut, Reply, Wrong
+from kv.stores import Failed, Stores
 
 CLIENTS = 8
 REGISTERS = [f"register {k}" for k in range(4)]
