@@ -25,7 +25,7 @@ pub(crate) struct Candidate {
 }
 
 impl Failures {
-    fn votes_by_word(&self) -> bool {
+    pub(crate) fn votes_by_word(&self) -> bool {
         matches!(self.settings.policy, Policy::Echo | Policy::Lease(_))
     }
 

@@ -89,6 +89,38 @@ impl Failures {
             && self.view.iter().filter(others).all(is_fit)
     }
 
+    /// The voters that may echo this name again, as far as it is known here: not those that have refused it, that said last that they
+    /// don't vote, or whose places never serve this list again.
+    fn may_echo(&self, elsewhere: Places) -> Places {
+        let me = self.settings.name;
+        let mut without = match self.voter {
+            Some(_) => 0,
+            None => 1 << me.place(),
+        };
+        // lives of a place stand in their order, so the latest one's word is the last
+        for (name, peer) in &self.peers.all {
+            let place = 1 << name.place();
+            without = match peer.votes {
+                true => without & !place,
+                false => without | place,
+            };
+        }
+        self.settings.voters & !(without | elsewhere | self.refused_by(me))
+    }
+
+    /// Whether too few voters are left that may echo this name again: so it can't act in this list any more. These places never serve the
+    /// list again.
+    pub fn is_lost(&self, elsewhere: Places) -> bool {
+        let left = self.may_echo(elsewhere).count_ones() as usize;
+        self.votes_by_word() && left < self.settings.majority()
+    }
+
+    /// Whether it hasn't been allowed to act for so many silences.
+    pub fn is_frozen_for(&self, silences: u64) -> bool {
+        let frozen = self.frozen_since().map(|since| self.now.since(since));
+        frozen.is_some_and(|frozen| frozen >= silences.saturating_mul(self.settings.silence))
+    }
+
     fn blocked(&self) -> Vec<Blocked> {
         let frozen = self.peers.all.iter().filter(|(name, peer)| {
             peer.frozen_since.is_some() && self.view.has(**name) && !self.stopped.has(**name)

@@ -31,4 +31,4 @@ pub use message::{is_message, Echo, Heard, Heartbeat, Message};
 pub use names::{places_of, Name, NameSet, Places};
 pub use settings::{Lease, Plant, Policy, Settings, StartError};
 pub use time::Time;
-pub use voter::{new_file, BadFile, FILE_BYTES};
+pub use voter::{new_file, refused_in, BadFile, FILE_BYTES};

@@ -26,6 +26,8 @@ pub(crate) struct Peer {
     pub(crate) suspects: NameSet,
     pub(crate) wants: NameSet,
     pub(crate) refuses: NameSet,
+    /// Whether it said that it votes.
+    pub(crate) votes: bool,
 }
 
 /// All that is known of others.
@@ -74,6 +76,7 @@ impl Failures {
             suspects: heartbeat.suspects,
             wants: heartbeat.wants,
             refuses: heartbeat.refuses,
+            votes: heartbeat.counter.is_some(),
         };
         self.peers.all.insert(from.name, peer);
         self.peers.ran.insert(from.name);

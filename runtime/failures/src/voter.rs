@@ -61,6 +61,12 @@ fn read_file(bytes: &[u8], id: [u8; 16], place: u8) -> Result<(u64, NameSet), Ba
     Ok((u64::from_be_bytes(*counter), NameSet::of_bytes(*refused)))
 }
 
+/// Whom a voter's file of this id and place says that it has refused; None if it isn't such a file.
+pub fn refused_in(file: &[u8], id: [u8; 16], place: u8) -> Option<NameSet> {
+    let read = read_file(file, id, place).ok();
+    read.map(|(_, refused)| refused)
+}
+
 /// What a voter keeps.
 #[derive(Clone, Debug)]
 pub(crate) struct Voter {
@@ -237,6 +243,8 @@ mod tests {
         let file = file_of([9; 16], 1, 5, &refused);
         assert_eq!(file.len(), FILE_BYTES);
         assert_eq!(read_file(&file, [9; 16], 1), Ok((5, refused)));
+        assert_eq!(refused_in(&file, [9; 16], 1), Some(refused));
+        assert_eq!(refused_in(&file, [9; 16], 2), None);
         assert_eq!(read_file(&file, [8; 16], 1), Err(BadFile));
         assert_eq!(read_file(&file, [9; 16], 2), Err(BadFile));
         for at in 0..file.len() {

@@ -19,6 +19,7 @@ pub enum Plant {
     EndsWhileRefused,
     EndsAtOneElsewhere,
     HeedsEarlierList,
+    LeavesListWhileEchoed,
 }
 
 /// What is to be done for what says who has stopped. The rest is the member's [`Output`](muoswyld_member::Output)s.
@@ -70,6 +71,8 @@ pub enum Deed {
     Closed {
         /// How many lists came before it.
         generation: u32,
+        /// Why.
+        why: Closing,
     },
     /// A name has stopped for certain in a list; the member is told so.
     Stopped {
@@ -94,13 +97,25 @@ pub enum Deed {
     },
 }
 
+/// Why a list that has ended isn't served any more.
+#[derive(Clone, Copy, Debug, PartialEq, Eq)]
+pub enum Closing {
+    /// Nobody wants anything of it any more: all founders of the next list were heard in that list, or have stopped there; or another member,
+    /// which knows that, said so.
+    Over,
+    /// This place's name was given up in it, so its member there has ended.
+    GivenUp,
+    /// Too few of its voters may still echo this place's name, so the name can't act in it any more. Others may serve the list still.
+    Lost,
+}
+
 /// Why a life ends by what says who has stopped.
 #[derive(Clone, Copy, Debug, PartialEq, Eq)]
 pub enum Ending {
     /// It was given up: the group goes on without it.
     GivenUp,
-    /// Too few voters of its list serve it still: they began in later lists. So nobody can act in it any more, and what is held never goes out.
-    /// The place comes back in the latest list as its next life.
+    /// Its list has ended, and too few voters of the list may still echo it: they don't serve the list any more, or have refused this name. So
+    /// it can't act any more, and what is held never goes out. The place comes back in the latest list as its next life.
     Unserved,
     /// It asked to join a list that has ended. Its place can come back in the latest one.
     Superseded,

@@ -1,5 +1,6 @@
 //! The value: inputs, batches, and what is to be done for it.
 
+use crate::closing::Left;
 use crate::deed::{Deed, Ending, Plant};
 use crate::following::Follows;
 use crate::lane::{at, Lane};
@@ -23,8 +24,8 @@ pub struct Guarded {
     pub(crate) lanes: Vec<Lane>,
     /// The list that is about to begin.
     pub(crate) follows: Option<Follows>,
-    /// The failures' ids of lists that aren't served any more.
-    pub(crate) closed: VecDeque<[u8; 16]>,
+    /// The lists that aren't served any more.
+    pub(crate) left: VecDeque<Left>,
     pub(crate) policy: Policy,
     pub(crate) least: Option<u8>,
     /// Whether a batch goes out only if a look says so.
@@ -75,7 +76,7 @@ impl Guarded {
             lists,
             lanes: vec![lane],
             follows: None,
-            closed: VecDeque::new(),
+            left: VecDeque::new(),
             policy,
             least: settings.least,
             is_gated,
@@ -478,6 +479,13 @@ impl Guarded {
     /// Whom it suspects in the latest list, whom it has refused, who has stopped, and up to when it may act.
     pub fn failures(&self) -> failures::Info {
         self.lanes[self.latest()].failures.info()
+    }
+
+    /// The same in a list that is served here still.
+    pub fn failures_in(&self, generation: u32) -> Option<failures::Info> {
+        let mut lanes = self.lanes.iter();
+        let lane = lanes.find(|lane| lane.generation == generation);
+        lane.map(|lane| lane.failures.info())
     }
 
     /// What makes it certain that a name has stopped.

@@ -32,8 +32,10 @@ pub(crate) struct Lane {
     /// How the member stood when a batch went out the last time.
     pub(crate) shown: Option<Info>,
     pub(crate) view: Option<(u32, Names)>,
-    /// The voters' places that never serve this list any more, since they began in a later one.
+    /// The places that never serve this list any more: they said that they are in a later one.
     pub(crate) elsewhere: Places,
+    /// Whether a member that closed this list has said so.
+    pub(crate) is_closed: bool,
     /// As a defect that a test plants: an input is read after the look.
     pub(crate) reads_after_look: bool,
 }
@@ -58,6 +60,7 @@ impl Lane {
             shown,
             view: None,
             elsewhere: 0,
+            is_closed: false,
             reads_after_look: false,
         }
     }

@@ -17,6 +17,6 @@ mod ids;
 mod lane;
 mod waiting;
 
-pub use deed::{Deed, Ending, Plant};
+pub use deed::{Closing, Deed, Ending, Plant};
 pub use guarded::Guarded;
 pub use ids::next_id;

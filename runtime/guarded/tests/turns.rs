@@ -1,9 +1,10 @@
 //! Guarded members, turn by turn.
 
 use muoswyld_failures::{
-    new_file, places_of, Failures, Message, Policy, Settings as Core, Time as CoreTime,
+    new_file, places_of, Failures, Heard, Heartbeat, Message, NameSet, Policy, Settings as Core,
+    Time as CoreTime,
 };
-use muoswyld_guarded::{next_id, Deed, Ending, Guarded};
+use muoswyld_guarded::{next_id, Closing, Deed, Ending, Guarded};
 use muoswyld_member::{
     Delivery, Founding, Generations, HandleError, Input, Name, Next, Output, Settings, Time,
 };
@@ -243,7 +244,13 @@ fn the_next_list_begins_once_that_is_on_disk_with_voters_of_its_own() {
     }
     let closed = begins(&mut all, (461, 700));
     for (one, closed) in all.iter().zip(closed) {
-        assert_eq!(closed, [Deed::Closed { generation: 0 }]);
+        assert_eq!(
+            closed,
+            [Deed::Closed {
+                generation: 0,
+                why: Closing::Over
+            }]
+        );
         let standing = one.info().standing;
         assert_eq!((standing.members.len(), one.lists().ended_lists()), (3, 0));
         assert_eq!(one.no_voter(), None);
@@ -464,4 +471,80 @@ fn who_is_behind_says_nothing_of_a_later_list() {
         };
         assert_eq!(end_by(&mut later, 1_100_000, &behind), None);
     }
+}
+
+/// The heartbeat of a name of the first list that has refused another one.
+fn refusing(place: u8, refused: u8) -> Vec<u8> {
+    let none = NameSet::default();
+    let name = muoswyld_failures::Name::first;
+    let heartbeat = Heartbeat {
+        id: ID,
+        from: Heard {
+            name: name(place),
+            process: u64::from(place) + 1,
+            sequence: 1_000_000,
+        },
+        asks: false,
+        counter: Some(1),
+        frozen_for: None,
+        members: (0..3).map(name).collect(),
+        suspects: none,
+        wants: none,
+        refuses: [name(refused)].into_iter().collect(),
+        ripe: none,
+        stopped: none,
+        words: none,
+        heard: Vec::new(),
+        counters: Vec::new(),
+    };
+    Message::Heartbeat(Box::new(heartbeat)).to_bytes()
+}
+
+/// 0 and 2 come to the end of the first list, and 1 doesn't. 1 has refused 0, and 2 votes no more: so nobody may echo 0 again but itself.
+#[test]
+fn whoever_can_never_act_in_an_ended_list_leaves_it_after_a_while() {
+    let mut all = three(Policy::Echo);
+    let now = Time(400_000);
+    assert_eq!(all[0].handle(now, Input::Succeed(next_list(None))), Ok(()));
+    begins(&mut all, (401, 460));
+    for one in [0, 2] {
+        all[one].begun(Time(460_000), 1, true);
+    }
+    assert_eq!(all[0].served().collect::<Vec<u32>>(), [0, 1]);
+    let mut closed = Vec::new();
+    let mut step = |all: &mut [Guarded], now: u64, says: bool| {
+        all[0].tick(Time(now));
+        if says {
+            all[0].hear(Time(now), &refusing(1, 0));
+        }
+        all[0].fix(Time(now));
+        let deeds = deeds_of(&mut all[0], Time(now)).into_iter();
+        closed.extend(deeds.filter(|deed| matches!(deed, Deed::Closed { .. })));
+    };
+    // it is frozen for long, but 1 and 2 may echo it again
+    for now in (461..15_000).map(|milli| milli * 1_000) {
+        step(&mut all, now, false);
+    }
+    // 1 has refused it, and 2 may echo it still
+    step(&mut all, 15_000_000, true);
+    step(&mut all, 15_100_000, false);
+    // 2 began in a later list, and says so
+    let elsewhere = Message::Elsewhere {
+        id: ID,
+        to: muoswyld_failures::Name::first(0),
+        place: 2,
+        generation: 1,
+    };
+    assert_eq!(all[0].served().count(), 2);
+    all[0].hear(Time(15_200_000), &elsewhere.to_bytes());
+    step(&mut all, 15_300_000, false);
+    let why = Closing::Lost;
+    assert_eq!(closed, [Deed::Closed { generation: 0, why }]);
+    assert_eq!(all[0].served().collect::<Vec<u32>>(), [1]);
+    // whoever speaks there is told that 0 is elsewhere, and not that the list is closed
+    all[0].hear(Time(15_400_000), &refusing(1, 0));
+    let said = sent_to(&mut all[0], Time(15_400_000), 1);
+    let said: Vec<Message> = said.iter().filter_map(|it| Message::read(it)).collect();
+    let is_elsewhere = |it: &Message| matches!(it, Message::Elsewhere { place: 0, .. });
+    assert!(said.iter().any(is_elsewhere), "{said:?}");
 }

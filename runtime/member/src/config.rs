@@ -106,6 +106,7 @@ pub enum Plant {
     EndsListLate,
     SendsAllAnew,
     TakesUnconfirmed,
+    TakesByAnotherEntry,
     FoundersAtTop,
     GivesWithoutBytes,
     DropsBytesEarly,

@@ -2,7 +2,7 @@
 
 use crate::body::{self, Assembler, Body};
 use crate::config::Plant;
-use crate::event::{Delivery, End, Output};
+use crate::event::{Delivery, Output};
 use crate::member::Member;
 use muoswyld::answer::{Entry, Outcome, Role};
 use muoswyld::event::Event;
@@ -39,7 +39,6 @@ impl Member {
 
     /// Takes what is accepted, and delivers it.
     pub(crate) fn take(&mut self) -> Option<()> {
-        self.look_at_first_entry();
         while self.can_take() {
             let outcome = self.step(&Event::Take, None)?;
             let Outcome::Took { number, entry } = outcome else {
@@ -75,11 +74,6 @@ impl Member {
         self.note_taken(number, &entry);
         if !self.is_in_list(number) {
             return Some(());
-        }
-        if self.ending.is_confirmed_for_another(number) {
-            // its node began elsewhere: whether this entry stands isn't known
-            self.end(End::Unwelcomed);
-            return None;
         }
         self.note_entry(number, &entry);
         let at = self.at(number, 0);

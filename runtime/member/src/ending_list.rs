@@ -15,6 +15,7 @@ use crate::frame::{self, Said, Speaker};
 use crate::member::Member;
 use muoswyld::answer::Entry;
 use muoswyld::names::{Name, Names};
+use std::collections::BTreeMap;
 
 /// What a member knows about the end of its list.
 #[derive(Debug)]
@@ -23,12 +24,10 @@ pub(crate) struct EndingList {
     members: Option<Names>,
     /// The last entry taken at which somebody joined or left, or a view began.
     changed_at: u32,
-    /// The first entry that this member was given: the one of its join, and 1 at a founder.
+    /// The first entry that this member is given: the one of its join, once it is welcomed, and 1 at a founder.
     begins_at: Option<u32>,
     /// Whether it is known that its first entry stands.
     is_confirmed: bool,
-    /// For which first entry that was confirmed: for another one it isn't.
-    confirmed_for: Option<u32>,
     /// When it asks for that next.
     ask_at: Time,
     /// When it first asked for that.
@@ -59,7 +58,6 @@ impl EndingList {
             changed_at: 0,
             begins_at: is_founder.then_some(1),
             is_confirmed: is_founder || settings.plant == Some(Plant::TakesUnconfirmed),
-            confirmed_for: None,
             ask_at: Time(0),
             asked_since: None,
             greet_at: Time(0),
@@ -73,6 +71,11 @@ impl EndingList {
         }
     }
 
+    /// A joiner's Welcome says which entry is the one of its join.
+    pub(crate) fn is_welcomed(&mut self, number: u32) {
+        self.begins_at.get_or_insert(number);
+    }
+
     /// Whether the list has ended here.
     pub(crate) fn has_ended(&self) -> bool {
         self.last.is_some() && self.late == 0
@@ -81,12 +84,6 @@ impl EndingList {
     /// The members after the last entry that was taken, if they are known.
     pub(crate) fn members(&self) -> Option<Names> {
         self.members
-    }
-
-    /// Whether a joiner's first entry is another one than was confirmed.
-    pub(crate) fn is_confirmed_for_another(&self, number: u32) -> bool {
-        let is_other = self.confirmed_for.is_some_and(|known| known != number);
-        self.begins_at.is_none() && is_other
     }
 
     /// Whether what is accepted may be delivered.
@@ -100,8 +97,10 @@ impl EndingList {
 pub(crate) struct Closed {
     pub(crate) group: u64,
     speaker: Speaker,
-    /// Who is to be told.
-    askers: Names,
+    /// The entry that ended it.
+    last: Option<u32>,
+    /// Who is to be told, and of which entry: 0 for one that asks to join.
+    askers: BTreeMap<Name, u32>,
 }
 
 impl Closed {
@@ -110,24 +109,36 @@ impl Closed {
         Some(Closed {
             group: member.hearing.group?,
             speaker: member.speaker(),
-            askers: Names::nobody(),
+            last: member.ending.last,
+            askers: BTreeMap::new(),
         })
     }
 
-    /// Letters of this list's group came. Nobody but an asker is behind its end, or heeds the answer.
+    /// Letters of this list's group came, or a joiner's question. Nobody but an asker, and a joiner whose join stands after the end, is behind the
+    /// end, or heeds the answer.
     pub(crate) fn asked_by(&mut self, payload: &[u8]) {
-        if let Some(frame::Frame::Letters { from, .. }) = frame::read(payload) {
-            if from.name.place() != self.speaker.name.place() {
-                self.askers = self.askers.with(from.name);
-            }
+        let (from, number) = match frame::read(payload) {
+            Some(frame::Frame::Letters { from, .. }) => (from, 0),
+            Some(frame::Frame::Entry {
+                from,
+                number,
+                said: Said::Asked,
+                ..
+            }) if self.last.is_some_and(|last| last < number) => (from, number),
+            _ => return,
+        };
+        if from.name.place() != self.speaker.name.place() {
+            let known = self.askers.entry(from.name).or_default();
+            *known = number.max(*known);
         }
     }
 
-    /// What tells those that asked since the last time.
+    /// What tells one of those that asked since the last time.
     pub(crate) fn answer(&mut self) -> Option<Output> {
-        let to = std::mem::take(&mut self.askers);
-        let payload = frame::entry(self.group, self.speaker, 0, Said::IsAbove);
-        (!to.is_empty()).then_some(Output::Datagram { to, payload })
+        let (name, number) = self.askers.pop_first()?;
+        let to = Names::nobody().with(name);
+        let payload = frame::entry(self.group, self.speaker, number, Said::IsAbove);
+        Some(Output::Datagram { to, payload })
     }
 }
 
@@ -190,7 +201,6 @@ impl Member {
     /// Looks at an entry that was taken, before it is delivered.
     pub(crate) fn note_entry(&mut self, number: u32, entry: &Entry) {
         let ending = &mut self.ending;
-        ending.begins_at.get_or_insert(number);
         let members = match entry {
             Entry::Data { .. } => return,
             Entry::Join(name) => ending.members.map(|members| members.with(*name)),
@@ -288,43 +298,30 @@ impl Member {
         if self.now < self.confirms_at() {
             return;
         }
-        let Some(group) = self.hearing.group else {
+        let (Some(group), Some(number)) = (self.hearing.group, self.first_entry()) else {
             return;
         };
         self.ending.ask_at = self.now.after(self.settings.first_resend);
         self.ending.asked_since.get_or_insert(self.now);
-        let number = self.first_entry();
         let ask = frame::entry(group, self.speaker(), number, Said::Asked);
         self.send_direct(self.standing.members.without(self.me()), ask);
     }
 
-    /// Looks whether the first entry that a joiner is given is the one that was confirmed. If its node begins somewhere else by now, that
-    /// is confirmed anew before anything is taken.
-    pub(crate) fn look_at_first_entry(&mut self) {
-        let ending = &self.ending;
-        let is_other = ending
-            .confirmed_for
-            .is_some_and(|number| number != self.standing.taken + 1);
-        if ending.begins_at.is_none() && is_other {
-            self.ending.is_confirmed = false;
-            self.ending.confirmed_for = None;
+    /// The entry of the own join, which its Welcome names. It isn't always the one after those that the node passes over: a Welcome may begin
+    /// further below.
+    fn first_entry(&self) -> Option<u32> {
+        match self.has(Plant::TakesByAnotherEntry) {
+            true => Some(self.standing.taken + 1),
+            false => self.ending.begins_at,
         }
-    }
-
-    /// The first entry that this member is given.
-    fn first_entry(&self) -> u32 {
-        self.ending.begins_at.unwrap_or(self.standing.taken + 1)
     }
 
     /// Hears something about an entry.
     pub(crate) fn hear_entry(&mut self, from: Speaker, number: u32, said: Said) {
         match said {
             Said::Asked => self.answer_entry(from, number),
-            Said::Stands if number == self.first_entry() => {
-                self.ending.is_confirmed = true;
-                self.ending.confirmed_for.get_or_insert(number);
-            }
-            Said::IsAbove if number == self.first_entry() && !self.ending.is_confirmed => {
+            Said::Stands if Some(number) == self.first_entry() => self.ending.is_confirmed = true,
+            Said::IsAbove if Some(number) == self.first_entry() && !self.ending.is_confirmed => {
                 self.end(End::Superseded);
             }
             // one that is welcomed and hasn't come to its join is none either

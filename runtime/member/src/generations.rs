@@ -286,8 +286,9 @@ impl Generations {
         let is_latest = generation == self.settings.generation;
         let mut outputs = Vec::new();
         if is_latest {
-            let closed = self.closed.iter_mut().filter_map(Closed::answer);
-            outputs.extend(closed);
+            for closed in &mut self.closed {
+                outputs.extend(std::iter::from_fn(|| closed.answer()));
+            }
         }
         if let Some(member) = self.served(generation) {
             member.release(now, &mut outputs);
@@ -356,13 +357,14 @@ impl Generations {
     /// Whether nobody wants anything of an ended list any more: all founders of the next one were heard in it or a later one, or have
     /// stopped there; or the member of the ended one has itself ended.
     pub fn is_over(&self, generation: u32) -> bool {
-        let Some(old) = self.old(generation) else {
-            return false;
-        };
+        let old = self.old(generation);
+        old.is_some_and(|old| old.member.info().ended.is_some() || self.has_come_from(generation))
+    }
+
+    /// Whether all founders of the list after an ended one were heard in it or a later one, or have stopped there.
+    pub fn has_come_from(&self, generation: u32) -> bool {
         let next = self.member_of(generation + 1);
-        old.member.info().ended.is_some()
-            || self.current.knows_all_founders()
-            || next.is_some_and(Member::knows_all_founders)
+        self.current.knows_all_founders() || next.is_some_and(Member::knows_all_founders)
     }
 
     /// An ended list isn't served any more. Whoever asks to join it is told that it has ended.

@@ -259,6 +259,9 @@ impl Member {
             return None;
         }
         self.journal.add(self.now, event, heard, &did);
+        if let (Outcome::Welcomed { number }, Role::Asking) = (&did.outcome, self.standing.role) {
+            self.ending.is_welcomed(*number);
+        }
         self.standing = did.standing;
         for packet in did.letters {
             self.letter = self.letter.wrapping_add(1);

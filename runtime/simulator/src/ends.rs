@@ -5,8 +5,8 @@ use crate::machine::id_of;
 use crate::plan::{Act, NextList, Plan};
 use crate::process::Process;
 use crate::world::World;
-use muoswyld_failures::{places_of, NoVoter, Places, Policy};
-use muoswyld_guarded::next_id;
+use muoswyld_failures::{self as failures, places_of, NoVoter, Places, Policy};
+use muoswyld_guarded::{next_id, Closing};
 use muoswyld_member::{Founding, HandleError, Input, Name, Names, Next, Standing, Successor};
 use std::collections::BTreeMap;
 
@@ -458,14 +458,50 @@ impl World<'_> {
     }
 
     /// A list that has ended isn't served at a place any more: its voter's file is removed.
-    pub(crate) fn closed(&mut self, place: u8, generation: u32) -> Result<(), String> {
+    pub(crate) fn closed(
+        &mut self,
+        place: u8,
+        generation: u32,
+        why: Closing,
+    ) -> Result<(), String> {
+        self.may_close(place, generation, why)?;
         self.machines[usize::from(place)].voters.remove(&generation);
         let process = self.process(place)?;
         if let Some(journal) = process.journals.get_mut(&generation) {
             journal.extend(b"end\n");
         }
         self.counts.closed += 1;
+        self.counts.lists_lost += u64::from(why == Closing::Lost);
         Ok(())
+    }
+
+    /// Whether what a place says of why it doesn't serve a list any more is so.
+    fn may_close(&self, place: u8, generation: u32, why: Closing) -> Result<(), String> {
+        let process = self.places[usize::from(place)].as_ref();
+        let name = process.and_then(|process| process.app.names.get(&generation));
+        let Some(name) = name.copied() else {
+            return Err(format!(
+                "place {place} closes list {generation}, where it has no name"
+            ));
+        };
+        let founders = self.list(generation + 1)?.founding.founders;
+        let has_come = |founder: &Name| {
+            let named = (generation + 1, *founder);
+            self.begun.contains(&named) || self.has_stopped(generation + 1, *founder)
+        };
+        let is_so = match why {
+            Closing::Over => founders.iter().all(|founder| has_come(&founder)),
+            // it may be the first one that knows it
+            Closing::GivenUp if self.given_up.contains_key(&(generation, name)) => true,
+            Closing::GivenUp | Closing::Lost => !self.may_be_echoed(generation, name),
+        };
+        match is_so {
+            true => Ok(()),
+            false => Err(format!(
+                "{name} closes list {generation}, though it isn't {why:?}: {}",
+                self.shown()
+            )),
+        }
     }
 
     /// In which list a place begins, and as which life: the latest one that its disk knows, or running members.
@@ -498,14 +534,33 @@ impl World<'_> {
             || voting.all(|(_, machine)| machine.voters.contains_key(&last))
     }
 
-    /// Whether a majority of the places that vote in a list have their files of it.
-    pub(crate) fn may_be_voted(&self, generation: u32) -> bool {
+    /// Whether a place may echo a name in a list, now or later: it votes there, has its file, and hasn't refused the name.
+    fn may_echo(&self, place: u8, generation: u32, name: Name) -> bool {
+        let machine = &self.machines[usize::from(place)];
+        let name = failures::Name::of_byte(name.byte());
+        let Some((list, file)) =
+            (self.lists.get(generation as usize)).zip(machine.voters.get(&generation))
+        else {
+            return false;
+        };
+        let process = self.places[usize::from(place)].as_ref();
+        let serves = process.and_then(|process| process.member.failures_in(generation));
+        match serves {
+            Some(failures) => failures.no_voter.is_none() && !failures.refused.has(name),
+            // it may come back in it
+            None => {
+                let refused = failures::refused_in(file, list.id, place);
+                refused.is_some_and(|refused| !refused.has(name))
+            }
+        }
+    }
+
+    /// Whether a majority of the places that vote in a list may echo a name there, now or later.
+    pub(crate) fn may_be_echoed(&self, generation: u32, name: Name) -> bool {
         let list = self.lists.get(generation as usize);
         let voters = list.map_or(0, |list| list.voters);
-        let machines = (0..16).zip(&self.machines);
-        let voting = machines.filter(|(place, machine)| {
-            voters >> place & 1 == 1 && machine.voters.contains_key(&generation)
-        });
+        let voting = (0..16).filter(|place| voters >> place & 1 == 1);
+        let voting = voting.filter(|place| self.may_echo(*place, generation, name));
         voting.count() > voters.count_ones() as usize / 2
     }
 

@@ -333,7 +333,7 @@ impl World<'_> {
                     voter,
                     ..
                 } => self.begins_list(place, (generation, id), voter)?,
-                Deed::Closed { generation } => self.closed(place, generation)?,
+                Deed::Closed { generation, why } => self.closed(place, generation, why)?,
                 Deed::Told {
                     notice: failures::Notice::Frozen,
                     ..
@@ -363,7 +363,7 @@ impl World<'_> {
             Ending::Superseded if generation >= self.last_list() => {
                 return Err(format!("{name} says that list {generation} has ended"));
             }
-            Ending::Unserved if self.may_be_voted(generation) => {
+            Ending::Unserved if self.may_be_echoed(generation, name) => {
                 return Err(format!(
                     "{name} ends, though enough places may vote in list {generation} still"
                 ));
@@ -484,6 +484,7 @@ impl World<'_> {
             asked: counts.asked,
             lists: counts.lists,
             closed: counts.closed,
+            lists_lost: counts.lists_lost,
             is_void: self.is_void,
         }
     }

@@ -452,21 +452,10 @@ impl World<'_> {
             let lists: Vec<u32> = process.member.served().collect();
             // writing to a string can't fail
             if self.plan.has_ends {
-                let (standing, failures) = (info.standing, process.member.failures());
-                let _ = writeln!(
-                    text,
-                    "    {} lists {lists:?} between {} {:?} of {} at {} to {}, frozen {}, stopped {:?}, refused {:?}, {:?}",
-                    info.name,
-                    process.member.lists().is_between(),
-                    standing.role,
-                    standing.members,
-                    standing.taken,
-                    standing.top,
-                    failures.frozen_since.is_some(),
-                    failures.stopped,
-                    failures.refused,
-                    failures.no_voter
-                );
+                let _ = writeln!(text, "    {}", info.name);
+                for generation in lists {
+                    self.show_list(&mut text, process, generation);
+                }
                 continue;
             }
             let _ = writeln!(text, "    leaves {} {info:?}", process.leaves);
@@ -476,6 +465,31 @@ impl World<'_> {
             }
         }
         text
+    }
+
+    /// How a process stands in a list.
+    fn show_list(&self, text: &mut String, process: &Process, generation: u32) {
+        let lists = process.member.lists();
+        let standing = lists.member_of(generation).map(|it| it.info().standing);
+        let failures = process.member.failures_in(generation);
+        let (Some(standing), Some(failures)) = (standing, failures) else {
+            return;
+        };
+        // writing to a string can't fail
+        let _ = writeln!(
+            text,
+            "        list {generation} between {} {:?} of {} at {} to {}, frozen {}, stopped {:?}, suspected {:?}, refused {:?}, {:?}",
+            lists.is_between(),
+            standing.role,
+            standing.members,
+            standing.taken,
+            standing.top,
+            failures.frozen_since.is_some(),
+            failures.stopped,
+            failures.suspects,
+            failures.refused,
+            failures.no_voter
+        );
     }
 
     /// Checks all, and tells of it.

@@ -64,6 +64,8 @@ pub struct Fenced {
     pub lists: u64,
     /// How often a place closed a list that had ended.
     pub closed: u64,
+    /// How often a place stopped to serve a list that had ended, since it could never act in it again.
+    pub lists_lost: u64,
     /// Whether more stopped than the resilience.
     pub is_void: bool,
 }
@@ -105,4 +107,5 @@ pub(crate) struct Counts {
     pub(crate) asked: u64,
     pub(crate) lists: u64,
     pub(crate) closed: u64,
+    pub(crate) lists_lost: u64,
 }

@@ -53,6 +53,7 @@ fn sum(reports: &[Report]) -> Fenced {
         all.asked += one.asked;
         all.lists += one.lists;
         all.closed += one.closed;
+        all.lists_lost += one.lists_lost;
     }
     all
 }
@@ -142,6 +143,29 @@ fn a_list_ends_by_itself_before_its_lives_or_numbers_run_out() {
         assert!(ends_by_itself(seed, numbers, &[]).0 > 0, "{seed}");
     }
     assert!(crashed > 0, "nothing happened");
+}
+
+/// Seed 2851: 1 is behind, has refused 0, and 2 came back in that list, so 2 doesn't vote there. Seed 2468: 4 is behind, 3 has refused 0, and 1 and
+/// 2 are back in the next list. So 0 never acts in the list again, which has ended, and no majority can give it up there. It leaves the list, and
+/// whoever is behind ends.
+#[test]
+fn whoever_can_never_act_in_a_list_that_has_ended_leaves_it() {
+    let lease = FencedPlan::lease(100);
+    let mut at_bounds = lease.clone();
+    at_bounds.at_bounds = true;
+    for (seed, fenced) in [(2851, lease), (2468, at_bounds)] {
+        let report = run(&Plan::generations(seed, fenced));
+        let report = report.unwrap_or_else(|failure| panic!("{failure}"));
+        assert!(report.fenced.lists_lost > 0, "{}", report.text);
+        assert_eq!(report.fenced.operated, 0);
+    }
+}
+
+/// The Welcome of 4 begins below the entry of its join, which stands after the list's end.
+#[test]
+fn a_joiner_asks_about_the_entry_of_its_own_join() {
+    let report = run(&Plan::generations(651, FencedPlan::told()));
+    report.unwrap_or_else(|failure| panic!("{failure}"));
 }
 
 /// Runs the seed that SEED names, by the policy that POLICY names.

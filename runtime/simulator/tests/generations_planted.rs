@@ -11,7 +11,7 @@ const SEEDS: u64 = 1000;
 fn found_with(
     what: &str,
     fenced: &FencedPlan,
-    plant: impl Fn(&mut FencedPlan),
+    plant: impl Fn(&mut Plan),
     change: impl Fn(&mut Plan),
     expected: &str,
 ) {
@@ -20,7 +20,7 @@ fn found_with(
         plan.journal = false;
         change(&mut plan);
         let right = plan.clone();
-        plan.fenced.iter_mut().for_each(&plant);
+        plant(&mut plan);
         if let Err(failure) = run(&plan) {
             println!("{what} is found by seed {seed}: {:.300}", failure.what);
             assert!(failure.what.contains(expected), "{}", failure.what);
@@ -33,7 +33,10 @@ fn found_with(
 
 fn found(plant: Plant, fenced: &FencedPlan, change: impl Fn(&mut Plan), expected: &str) {
     let what = format!("{plant:?}");
-    let set = |fenced: &mut FencedPlan| fenced.plant = Some(plant);
+    let set = |plan: &mut Plan| {
+        let fenced = plan.fenced.iter_mut();
+        fenced.for_each(|fenced| fenced.plant = Some(plant));
+    };
     found_with(&what, fenced, set, change, expected);
 }
 
@@ -207,7 +210,11 @@ fn an_echo_of_the_old_list_counts_in_the_next_one() {
     found_with(
         "EchoOfAnyList",
         &quiet(FencedPlan::lease(100)),
-        |fenced| fenced.core_plant = Some(muoswyld_failures::Plant::EchoOfAnyList),
+        |plan| {
+            let fenced = plan.fenced.iter_mut();
+            let plant = muoswyld_failures::Plant::EchoOfAnyList;
+            fenced.for_each(|fenced| fenced.core_plant = Some(plant));
+        },
         about_two_votes,
         SEEN,
     );
@@ -256,5 +263,73 @@ fn a_member_heeds_those_that_are_behind() {
         &FencedPlan::echo(),
         |_| (),
         "though enough places may vote",
+    );
+}
+
+/// Lists of five end, 4 is cut off at that moment, and then the whole network fails for so long that all are frozen for more than ten silences.
+/// Nobody is refused.
+fn about_an_outage(plan: &mut Plan) {
+    about_the_end(plan);
+    let next = NextList {
+        window: 64,
+        less: 0,
+        voters: 0,
+        tries: 0,
+    };
+    let at = 900_000;
+    let behind = Act::Split {
+        places: 1 << 4,
+        micros: 100_000,
+    };
+    plan.acts = vec![
+        (at, 3, Act::Succeed(next)),
+        (at + 100, 0, behind),
+        (at + 90_000, 0, Act::Outage(4_000_000)),
+    ];
+    plan.ends = 5_500_000;
+}
+
+#[test]
+fn a_list_that_has_ended_is_left_while_its_voters_may_echo() {
+    found(
+        Plant::LeavesListWhileEchoed,
+        &quiet(FencedPlan::lease(100)),
+        about_an_outage,
+        "though it isn't Lost",
+    );
+}
+
+/// Places join about when lists end, while members reset.
+fn about_joins(plan: &mut Plan) {
+    plan.succeed_at = None;
+    plan.faults.lost = plan.faults.lost.min(50);
+    plan.acts.retain(|(_, _, act)| matches!(act, Act::Pause(_)));
+    let next = NextList {
+        window: 16,
+        less: 0,
+        voters: 0,
+        tries: 3,
+    };
+    for turn in 0..6u64 {
+        let at = 700_000 + turn * 150_000;
+        let place = ((plan.seed + turn) % 3) as u8;
+        let about = (plan.seed * 13 + turn * 7) % 60 * 500;
+        plan.acts.push((at, place, Act::Succeed(next)));
+        plan.acts.push((at + about, place, Act::Join));
+        plan.acts
+            .push((at + about / 2, (place + 1) % 3, Act::Reset(0)));
+    }
+    plan.acts.sort_by_key(|(at, place, _)| (*at, *place));
+    plan.ends = 2_000_000;
+}
+
+#[test]
+fn a_join_is_confirmed_by_another_entry() {
+    found_with(
+        "TakesByAnotherEntry",
+        &FencedPlan::told(),
+        |plan| plan.plant = Some(muoswyld_member::Plant::TakesByAnotherEntry),
+        about_joins,
+        "",
     );
 }

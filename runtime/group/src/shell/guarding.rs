@@ -43,8 +43,8 @@ impl Shell {
                     voter,
                     ..
                 } => self.begin_list(generation, id, voter),
-                Deed::Closed { generation } => {
-                    if let Some(end) = self.close_list(generation) {
+                Deed::Closed { generation, why } => {
+                    if let Some(end) = self.close_list(generation, why) {
                         return Some(end);
                     }
                 }

@@ -9,6 +9,7 @@ use crate::next::{is_as_asked, NextList};
 use crate::shared::{Command, Succeeded, Told};
 use crate::slot::Slot;
 use muoswyld::names::Name;
+use muoswyld_guarded::Closing;
 use muoswyld_member::{Before, Delivery, HandleError, Input, Next, Successor};
 use std::collections::btree_map::Entry;
 use std::io::Write;
@@ -176,8 +177,19 @@ impl Shell {
     }
 
     /// An ended list isn't served any more: its journal ends, and its files aren't needed. The end, if the journal can't be written.
-    pub(super) fn close_list(&mut self, generation: u32) -> Option<End> {
-        tracing::info!("all are heard in the list after generation {generation}, or have stopped");
+    pub(super) fn close_list(&mut self, generation: u32, why: Closing) -> Option<End> {
+        let of = format!("the list of generation {generation}");
+        match why {
+            Closing::Over => {
+                tracing::info!("{of} is closed: all are heard in the next one, or have stopped")
+            }
+            Closing::GivenUp => {
+                tracing::warn!("{of} isn't served any more: this member was given up in it")
+            }
+            Closing::Lost => tracing::warn!(
+                "{of} isn't served any more: too few of its voters may echo this member"
+            ),
+        }
         self.fencing.close(generation);
         match self.end_journal(generation) {
             Ok(()) => None,
