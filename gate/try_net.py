@@ -227,6 +227,8 @@ def not_read(tried: Tried) -> list[str]:
     pair = tried.start("0", "--founders", "0,1", "--leave-within", "1")
     tried.caller("0").close()
     pair.tell("send x")
+    # a message that it was given before the signal
+    wrong += tried.lacks("0", "\tsend ")
     pair.signal(signal.SIGTERM)
     if not pair.wants(waits) or not pair.wants("the member hasn't left within 1 seconds") or pair.status() != 75:
         wrong.append("who can't leave doesn't say so, or doesn't end with 75")

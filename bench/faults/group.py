@@ -21,6 +21,8 @@ BUILT = TOP / "runtime" / "target" / "release"
 PATIENCE = 40.0
 # the status of a member that was given up
 GIVEN_UP = 69
+# how many lives a place has in a list
+LIVES = 16
 FENCE = """\
 #!/bin/sh
 # ends the process of the name which is the one argument, and waits until it is gone
@@ -119,6 +121,10 @@ class Group:
         """The folder of state of a place."""
         return self.folder / f"state-{place}"
 
+    def has_lives(self) -> bool:
+        """Whether each place has lives left for one more fault: one for whom it hits, and one for whoever is started anew after it."""
+        return max(self.begun) < LIVES - 1
+
     def found(self) -> None:
         """Makes the folders of state, and starts all founders."""
         for place in range(self.kind.members):
@@ -130,7 +136,7 @@ class Group:
     def start(self, place: int) -> Life:
         """Starts the first life of a place, or its next one."""
         life = self.begun[place] = self.begun[place] + 1
-        if life > 16:
+        if life > LIVES:
             raise Wrong(f"place {place} has no life left")
         name = str(place) if life == 1 else f"{place}/{life}"
         file = name.replace("/", "-")

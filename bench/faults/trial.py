@@ -21,6 +21,7 @@ OPERATOR = 6.0
 # a fault goes on for so many seconds more at most, until whom it hits is given up
 LATE = 15.0
 KILLED = -9
+NOT_WRITTEN = "this place doesn't vote any more: its voter's file can't be written"
 
 
 @dataclass(frozen=True)
@@ -90,7 +91,7 @@ class Trial:
     def directed(self) -> None:
         """One fault after the other, all of the same kind."""
         until = time.monotonic() + self.plan.seconds
-        while time.monotonic() < until:
+        while time.monotonic() < until and self.group.has_lives():
             fault = directed(self.plan.what, self.plan.kind, self.group, self.draw)
             hit = {place: self.group.lives[place] for place in fault.hit}
             self.begin(fault)
@@ -102,7 +103,7 @@ class Trial:
             self.became(fault, hit)
             self.recover(fault.what)
             self.result.back.setdefault(fault.what, []).append(time.monotonic() - fault.over)
-            self.vote_again(fault)
+            self.vote_again(fault, hit)
             time.sleep(0.3)
             self.measure(fault)
 
@@ -119,15 +120,17 @@ class Trial:
         said = (status for place, status in self.group.statuses().items() if status and place not in fault.hit)
         return any(names <= {*status["failures"]["stopped"]} for status in said)
 
-    def vote_again(self, fault: Fault) -> None:
-        """A place whose folder couldn't be written votes no more, as its life is told; its next life votes."""
+    def vote_again(self, fault: Fault, hit: dict[int, Life]) -> None:
+        """A place whose folder couldn't be written votes no more, as its life is told; its next life votes. Where the others are a majority they may
+        have given up whom the fault hits before this place had anything to write: then it has refused nobody of them."""
         if fault.folder is None:
             return
         place = fault.folder[0]
-        status = self.group.status(place)
-        why = None if status is None else status["failures"]["why-no-vote"]
-        if self.plan.kind.policy in ("echo", "lease") and why != "this place doesn't vote any more: its voter's file can't be written":
-            self.result.wrong.append(f"{fault.what}: {place} says why it doesn't vote: {why}")
+        said = (self.group.status(place) or {"failures": {"why-no-vote": "nothing at all", "refused": []}})["failures"]
+        others_do = self.plan.kind.voters - len(hit) - 1 > self.plan.kind.voters // 2
+        was_spared = others_do and said["why-no-vote"] is None and not {life.name for life in hit.values()} & {*said["refused"]}
+        if self.plan.kind.policy in ("echo", "lease") and said["why-no-vote"] != NOT_WRITTEN and not was_spared:
+            self.result.wrong.append(f"{fault.what}: {place} says why it doesn't vote: {said}")
         self.killed.add(self.group.lives[place].name)
         self.group.signal(place, signal.SIGKILL)
         self.faults.tell({place})
@@ -218,7 +221,7 @@ class Trial:
         """Several faults at once. No more places are hit than the resilience allows until all are whole again."""
         down: set[int] = set()
         until, looked = time.monotonic() + self.plan.seconds, 0.0
-        while time.monotonic() < until:
+        while time.monotonic() < until and self.group.has_lives():
             self.faults.go_on()
             for fault in [one for one in self.faults.active if time.monotonic() > one.at + one.seconds]:
                 self.faults.end(fault)

@@ -6,7 +6,7 @@ use muoswyld_group::{
 use std::net::SocketAddr;
 use std::os::unix::fs::PermissionsExt;
 use std::path::PathBuf;
-use std::sync::atomic::{AtomicBool, AtomicU16, Ordering};
+use std::sync::atomic::{AtomicBool, AtomicU16, AtomicU32, Ordering};
 use std::time::{Duration, Instant};
 
 const SOON: Duration = Duration::from_secs(30);
@@ -85,29 +85,40 @@ fn calls_go_on_over_the_ends_of_lists() {
         let place = config_name(&config);
         config.journal(journal(&place))
     });
-    let is_over = AtomicBool::new(false);
+    // `lists` is in how many lists messages stand
+    let (is_over, lists) = (AtomicBool::new(false), AtomicU32::new(0));
     let (positions, ends) = std::thread::scope(|scope| {
         let senders: Vec<_> = groups
             .iter()
             .map(|group| {
-                let is_over = &is_over;
+                let (is_over, lists) = (&is_over, &lists);
                 scope.spawn(move || {
                     let mut sent = Vec::new();
                     while !is_over.load(Ordering::SeqCst) {
                         let text = format!("{} {}", group.name(), sent.len());
                         let long = text.clone() + &".".repeat(sent.len() % 7 * 700);
-                        sent.push((group.send(long.clone()).unwrap(), long.into_bytes()));
+                        let at = group.send(long.clone()).unwrap();
+                        lists.fetch_max(at.generation + 1, Ordering::SeqCst);
+                        sent.push((at, long.into_bytes()));
                     }
                     sent
                 })
             })
             .collect();
-        let mut ends = Vec::new();
-        for (ender, window) in [(1, 99), (0, 33), (2, 256)] {
+        // messages go on for a while in each list, and one of them stands in it for certain
+        let go_on = |generation| {
             std::thread::sleep(Duration::from_millis(150));
+            let began = Instant::now();
+            while lists.load(Ordering::SeqCst) <= generation && began.elapsed() < SOON {
+                std::thread::sleep(Duration::from_millis(1));
+            }
+        };
+        let mut ends = Vec::new();
+        for (generation, ender, window) in [(0, 1, 99), (1, 0, 33), (2, 2, 256)] {
+            go_on(generation);
             ends.push(succeed(&groups[ender], NextList::new().window(window)));
         }
-        std::thread::sleep(Duration::from_millis(150));
+        go_on(3);
         is_over.store(true, Ordering::SeqCst);
         let sent = senders.into_iter().flat_map(|it| it.join().unwrap());
         (sent.collect::<Vec<_>>(), ends)
