@@ -438,7 +438,7 @@ leads_on_in_turn h k =
 abbrev AlongEndOf : Node → Node → Type 0
 AlongEndOf q m = ActsAlong q.core.log (refresh_at_end q).core.base m
 
-along_same_lead : (q n m : Node) → LeadsOn q n → AlongEndOf n m → AlongEndOf q m
+pub along_same_lead : (q n m : Node) → LeadsOn q n → AlongEndOf n m → AlongEndOf q m
 along_same_lead q n m k h = subst (λ (l : Log). ActsAlong l (refresh_at_end q).core.base m) k.log (subst (λ base. ActsAlong n.core.log base m) k.base h)
 
 -- who may catch up with the one may catch up with the other
