@@ -259,6 +259,9 @@ members_gather_in_run rules events q may lawful gathers =
 pub members_gather : MembersGather
 members_gather rules events q may lawful gathers =
     let w = run rules events in
-    let all = members_gather_in_run rules events q may lawful gathers in
-    (all.0, all.1, λ name listed. subst (λ (x : World). ActsInViewOf (w.nodes q) (x.nodes name)) (sym (runs_go_on (start rules) events all.0))
-    (let a = all.2.act name listed in record { acts = a.acts; view_ = a.view_ }))
+    let all = members_gather_in_run rules events q may lawful gathers in (
+      all.0,
+      all.1,
+      λ name listed. subst (λ (x : World). ActsInViewOf (w.nodes q) (x.nodes name)) (sym (runs_go_on (start rules) events all.0))
+          (let a = all.2.act name listed in record { acts = a.acts; view_ = a.view_ }),
+    )

@@ -1,6 +1,6 @@
 -- After its members have come to its sequencer's view, taking rounds answer all that they sent.
-use Rattle.am_repair.proofs.RepairWords.{◌≡◌, ℕ, ◌+◌, ◌*◌, ◌≤◌, true, false, List, ◌++◌, sym, ap, ◌∙◌, subst, arith, split_on_bool, has, names_of, members_of_image, log_image_at, Image, Log, image_of_log, top_of_log}
-use Rattle.am_repair.proofs.RepairWords.{Event, Rules, Node, top, members, is_member, is_stopped, World, current, run, runs_go_on, is_asking_status, row_at_place}
+use Rattle.am_repair.proofs.RepairWords.{◌≡◌, ℕ, ◌+◌, ◌*◌, true, List, ◌++◌, sym, ap, ◌∙◌, subst, arith, has, names_of, members_of_image, log_image_at, Log, image_of_log, top_of_log}
+use Rattle.am_repair.proofs.RepairWords.{top, members, is_member, is_stopped, World, current, run, runs_go_on, row_at_place}
 use Rattle.am_group_defs.specs.Settle.{round_count}
 use Rattle.am_group_defs.specs.World.{start}
 use Rattle.am_repair.proofs.Known.Beginning.{repair_of_place}
@@ -14,7 +14,7 @@ use Rattle.am_repair_takes.proofs.Rest.{sends_are_answered_where_lists_agree}
 use Rattle.am_step_laws.proofs.Words.{member_status_has_log}
 use Rattle.std.specs.List.{sum_by}
 use Rattle.am_repair_fetches.specs.Rest.{SendsAreAnsweredLater}
-use Rattle.am_repair_fetches.proofs.Later.{Later, gathers_later, same_list_later}
+use Rattle.am_repair_fetches.proofs.Later.{gathers_later, same_list_later}
 use Rattle.am_repair_fetches.proofs.Unasked.{IsQuieter, quieter_by_events}
 
 -- a sum of what is the same is the same

@@ -1,8 +1,10 @@
 -- Through ticks and hearings nobody comes to ask, nobody sends, and a list goes on to begin where it began.
-use Rattle.am_repair.proofs.RepairWords.{◌≡◌, ℕ, ◌==◌, true, false, List, [], ◌∷◌, refl, sym, ap, ◌∙◌, subst, All, All-head, All-tail, split_on_bool, eqb-true, Event, Act, Node, World, happens, world_after_events}
-use Rattle.am_repair.proofs.RepairWords.{world_with_step, world_with_record, Cause, calls, hears, IsCause, acting_name, has_log_by_status, events_have_effects, is_asking_status}
+use Rattle.am_repair.proofs.RepairWords.{◌≡◌, ℕ, ◌==◌, true, List, [], ◌∷◌, refl, sym, ◌∙◌, subst, All, All-head, All-tail, split_on_bool, eqb-true, Event, Act, Node, World, happens, world_after_events}
+use Rattle.am_repair.proofs.RepairWords.{world_with_step, world_with_record, Cause, calls, IsCause, acting_name, has_log_by_status, events_have_effects}
 use Rattle.am_step_laws.proofs.Words.{EventHappens, steps}
+use Rattle.am_base.specs.declared.event.NodeEvent.{NodeEvent}
 use Rattle.am_step_laws.specs.Events as act
+use Rattle.am_step_laws.specs.Events.{IsCall}
 use Rattle.am_fetch_runs.specs.Gathering.{IsTickOrHearing}
 use Rattle.am_fetch_runs.specs.Gathering as gathering
 use Rattle.am_repair_takes.proofs.Quiet.{IsMild, IsSame, same_changes}
@@ -26,17 +28,30 @@ quieter_in_turn h k = record {
 
 -- ---- events
 
-mild_cause : (w : World) (i : ℕ) (e : Event) (c : Cause) → IsTickOrHearing e → IsCause w i e.act c → IsMild c
-mild_cause w i e (calls event) (gathering.ticks place) act.tick = tt
-mild_cause w i e (hears p) such is = tt
-mild_cause w i e _ such is = tt
+-- a tick, or a hearing
+abbrev IsTickOrHear : Act → Type 0
+IsTickOrHear Act.Tick = Unit {0}
+IsTickOrHear (Act.Hear number) = Unit {0}
+IsTickOrHear _ = ⊥
+
+such_act : (e : Event) → IsTickOrHearing e → IsTickOrHear e.act
+such_act e (gathering.ticks place) = tt
+such_act e (gathering.hears place number) = tt
+
+mild_call : (w : World) (a : Act) (event : NodeEvent) → IsTickOrHear a → IsCall w a event → IsMild (calls event)
+mild_call w a event such act.tick = tt
+mild_call w a event such _ = absurd such
+
+mild_cause : (w : World) (i : ℕ) (a : Act) (c : Cause) → IsTickOrHear a → IsCause w i a c → IsMild c
+mild_cause w i a (calls event) such is = mild_call w a event such is
+mild_cause w i a _ such is = tt
 
 quieter_by : (w : World) (e : Event) (v : World) (name : ℕ) → IsTickOrHearing e → EventHappens w e v → IsQuieter (w.nodes name) (v.nodes name)
 unfolding world_with_record world_with_step
 quieter_by w e v name such (steps c s runs cause effect) = split_on_bool (name == acting_name w e)
     (λ t.
     let here : IsQuieter (w.nodes (acting_name w e)) s.node = record {
-      same = same_changes (w.nodes (acting_name w e)) s.node (mild_cause w (acting_name w e) e c such cause) effect.changes;
+      same = same_changes (w.nodes (acting_name w e)) s.node (mild_cause w (acting_name w e) e.act c (such_act e such) cause) effect.changes;
       begins = λ log. changes_before (w.nodes (acting_name w e)) s.node log effect.changes;
     } in
     rw t (subst (λ j. IsQuieter (w.nodes j) s.node) (sym (eqb-true name (acting_name w e) t)) here))
