@@ -43,17 +43,13 @@ acting_after_end : (log : Log) (base : ℕ) (m : Node) → ActsAlong log base m 
 acting_after_end log base m h =
     let r = end_refresh_rests_with_list m in
     let same : top (refresh_at_end m) ≡ top m = ap (λ (l : Log). top_of_log l) r.log in
-    let more = r.rests.taken in
-    let low = h.low in
-    let within = h.within in
-    let taken = h.taken in
     record {
       acts = acts_after_rest r.rests ∙ h.acts;
       view_ = r.rests.view ∙ h.view_;
-      low = omega arith;
-      within = omega arith;
+      low = omega (arith, same, h.low);
+      within = omega (arith, same, h.within);
       told_ = ap (λ (l : Log). image_of_log l) r.log ∙ h.told_ ∙ ap (log_image_at log) (sym same);
-      taken = omega arith;
+      taken = omega (arith, r.rests.taken, h.taken);
     }
 
 -- it ignores Pieces of its view
