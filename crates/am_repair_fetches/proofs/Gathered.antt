@@ -1,9 +1,9 @@
 -- A group whose members have come to its sequencer's view may be repaired.
-use Rattle.am_repair.proofs.RepairWords.{◌≡◌, ℕ, ◌≤◌, ◌==◌, true, false, List, sym, ap, ◌∙◌, subst, arith, split_on_bool, eqb-true, has, members_of_image, log_members_at, Log}
-use Rattle.am_repair.proofs.RepairWords.{top_of_log, image_of_log, Node, top, view, members, is_sequencer, has_departed, World, current, is_stopped}
+use Rattle.am_repair.proofs.RepairWords.{◌≡◌, ℕ, ◌==◌, true, false, List, sym, ap, ◌∙◌, subst, arith, split_on_bool, eqb-true, has, members_of_image, log_members_at, Log}
+use Rattle.am_repair.proofs.RepairWords.{top_of_log, image_of_log, Node, view, members, is_sequencer, has_departed, World, current, is_stopped}
 use Rattle.am_repair.proofs.RepairWords.{MayRepair}
 use Rattle.am_repair.specs.Claim.{IsOut}
-use Rattle.am_repair.proofs.Known.Beginning.{name_out_is_no_member}
+use Rattle.am_repair.proofs.Known.Beginning.{HoldsViewAndAccepted, name_out_is_no_member}
 use Rattle.am_repair.proofs.Going.{member_status_has_not_departed}
 use Rattle.am_fetch_runs.proofs.Gathering.{AllGathered}
 use Rattle.am_repair_fetches.specs.Later.{MayRepairLater}
@@ -11,7 +11,7 @@ use Rattle.am_repair_fetches.specs.Later.{MayRepairLater}
 -- ---- a group that has gathered
 
 module _ (w v : World) (place : ℕ) (later : MayRepairLater w place) (g : AllGathered w v (current w place)) (itself : has (members (w.nodes (current w place))) (current w place) ≡ true)
-    (low : (w.nodes (current w place)).core.acc ≤ top (w.nodes (current w place))) (stays : (name : ℕ) → (w.nodes name).leaving ≡ false → (v.nodes name).leaving ≡ false) where
+    (low : HoldsViewAndAccepted (w.nodes (current w place))) (stays : (name : ℕ) → (w.nodes name).leaving ≡ false → (v.nodes name).leaving ≡ false) where
   abbrev q : ℕ
   q = current w place
 
@@ -29,11 +29,12 @@ module _ (w v : World) (place : ℕ) (later : MayRepairLater w place) (g : AllGa
   unlisted_is_same name none = g.spares.others name (unlisted_is_other name none) none
 
   still_out : (name : ℕ) → has (members (w.nodes q)) name ≡ false → IsOut w (w.nodes q) name → IsOut v (v.nodes q) name
-  still_out name none out = λ here number above within.
+  still_out name none out = λ here number above viewed within.
       (let same = unlisted_is_same name none in
       let rises = g.lead.acc in
       let long = ap (λ (l : Log). top_of_log l) g.lead.log in
-      ap (λ (l : Log). has (log_members_at l number) name) g.lead.log ∙ out (ap (λ (m : Node). has_departed m.status) (sym same) ∙ here) number (omega arith) (omega arith))
+      let last = ap (λ (l : Log). (image_of_log l).view_number) g.lead.log in
+      ap (λ (l : Log). has (log_members_at l number) name) g.lead.log ∙ out (ap (λ (m : Node). has_departed m.status) (sym same) ∙ here) number (omega arith) (omega arith) (omega arith))
 
   stopped_is_out : (name : ℕ) → is_stopped v name ≡ true → IsOut v (v.nodes q) name
   stopped_is_out name t =

@@ -9,7 +9,7 @@ use Rattle.am_group_defs.specs.World.{start}
 use Rattle.am_step_laws.proofs.Rests.{end_refresh_rests_with_list}
 use Rattle.am_repair.specs.Standing.{Agrees, HasLeft, IsBeginning, IsOneList}
 use Rattle.am_repair.specs.Trimmed.{CountsMembers}
-use Rattle.am_repair.proofs.Known.Beginning.{repairs_where_lists_agree}
+use Rattle.am_repair.proofs.Known.Beginning.{HoldsViewAndAccepted, node_holds_view_and_accepted, repairs_where_lists_agree}
 use Rattle.am_repair.proofs.Known.OneLists.{fits_there, has_left, listed_is, part_in_view_has_last_view}
 use Rattle.am_repair.proofs.Known.ReportedRuns.{known_is_taken}
 use Rattle.am_repair.proofs.Repairable.OneList.{running_sequencer_has_one_list}
@@ -43,8 +43,8 @@ module _ (rules : Rules) (events more : List Event) (place : ℕ) (may : MayFoun
   laws : WorldTrimsOnlyTaken rules w
   laws = run_trims_only_taken rules events may
 
-  accepted : old.core.acc ≤ top old
-  accepted = (laws.each q later.gathers.current_.small).fronts.accepted
+  accepted : HoldsViewAndAccepted old
+  accepted = node_holds_view_and_accepted rules events q
 
   itself : has (members old) old.core.who ≡ true
   itself = (laws.each q later.gathers.current_.small).leads later.gathers.leads

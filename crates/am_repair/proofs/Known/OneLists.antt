@@ -13,7 +13,7 @@ use Rattle.am_base.specs.Whole as whole
 use Rattle.am_group_defs.specs.Lawful as lists
 use Rattle.am_repair.proofs.Nodes.{acting_member_promised_its_view, sequencer_acts_by_own_view}
 use Rattle.am_repair.proofs.Known.ReportedRuns.{known_is_taken}
-use Rattle.am_repair.proofs.Known.Beginning.{acting_name_is_small, name_out_is_no_member, member_of_repair_runs}
+use Rattle.am_repair.proofs.Known.Beginning.{HoldsViewAndAccepted, node_holds_view_and_accepted, acting_name_is_small, name_out_is_no_member, member_of_repair_runs}
 use Rattle.am_repair.proofs.Going.{member_status_has_not_departed}
 use Rattle.am_repair.proofs.RepairLists.{entry_at_is_within_log}
 
@@ -175,7 +175,7 @@ agrees w q m good own h same fq fm trimmed_ known =
 -- a leaver has left it
 pub has_left : (rules : Rules) (events : List Event) (place name : ℕ) → MayFound rules
     → ((run rules events).nodes name).leaving ≡ true → IsOut (run rules events) ((run rules events).nodes (current (run rules events) place)) name
-    → (let w = run rules events in let q = w.nodes (current w place) in q.core.acc ≤ top q → IsOneList w q → IsBeginning w q q
+    → (let w = run rules events in let q = w.nodes (current w place) in HoldsViewAndAccepted q → IsOneList w q → IsBeginning w q q
     → has (members q) q.core.who ≡ true → is_member (w.nodes name).status ≡ true → is_stopped w name ≡ false → HasLeft q (w.nodes name))
 has_left rules events place name may leaves out low one own itself member goes =
     let w = run rules events in
@@ -200,8 +200,9 @@ one_list_agrees rules events place may low repair one settled_ =
     let acts_ = (sequencer_acts_by_own_view q repair.leads).0 in
     let few = acting_name_is_small rules w by laws acts_ in
     let leads = (laws.each by few).fronts in
+    let holds = node_holds_view_and_accepted rules events by in
     let itself = (laws.each by few).leads repair.leads in
-    let goes : (name : ℕ) → has (members q) name ≡ true → is_stopped w name ≡ false = λ name there. member_of_repair_runs w place name repair leads.accepted there in
+    let goes : (name : ℕ) → has (members q) name ≡ true → is_stopped w name ≡ false = λ name there. member_of_repair_runs w place name repair holds there in
     let here = subst (λ i. has (members q) i ≡ true) (laws.blanks.base.named.who by) itself in
     let own = one.each by (acting_member_promised_its_view q acts_).0 (goes by here) in
     record {
@@ -214,7 +215,7 @@ one_list_agrees rules events place may low repair one settled_ =
           agrees w q m one.good own (one.each name (acting_member_promised_its_view m act.0).0 (goes name there)) act.1 leads (laws.each name low_).fronts
           (settled_.trims name there) (subst (λ i. (q.reports i).taken ≤ max q.core.base m.core.taken) (sym who) known));
       alone = λ name member runs stays. listed_is w q name own (one.listed name member runs stays);
-      left = λ name member runs leaves. has_left rules events place name may leaves (repair.nobody_leaves name leaves) leads.accepted one own itself member runs;
+      left = λ name member runs leaves. has_left rules events place name may leaves (repair.nobody_leaves name leaves) holds one own itself member runs;
       fit = λ number e there. fits_there w q number e one.good own there;
       counted = settled_.counted;
     }

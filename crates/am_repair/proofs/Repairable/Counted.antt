@@ -48,7 +48,7 @@ leaves_last list before name e good within view_ is none = absurd (let z = membe
 -- who counts for a number that the sequencer hasn't accepted, after the last View, is a member at the list's end
 stays_member : (s : Group) (q : ℕ) (list : List Entry) (n name : ℕ) → GroupKeeps s → AllLeaversAskedAndGone s → Leads q (s.node q) → list ≡ chain_of s.views
     → length s.group < n → n ≤ length list → (image_of_list list).view_number ≤ n
-    → ((at : ℕ) → n ≤ at + 1 → at ≤ length list → is_member_at_end (take at list) name ≡ true → (s.node name).leaving ≡ true → (s.node name).departed ≡ true)
+    → ((at : ℕ) → n ≤ at + 1 → (image_of_list list).view_number ≤ at → at ≤ length list → is_member_at_end (take at list) name ≡ true → (s.node name).leaving ≡ true → (s.node name).departed ≡ true)
     → has (counting_names_in list n) name ≡ true → is_member_at_end list name ≡ true
 stays_member s q list n name k left leads is low high view_ leaves h = split_on_bool (is_member_at_end list name)
     (λ t. t)
@@ -62,7 +62,7 @@ stays_member s q list n name k left leads is low high view_ leaves h = split_on_
     let asked = left.asked e.before name (subst (IsBeginningOf (e.before ++ Leave name ∷ [])) is there) in
     let size = beginning_is_no_longer at.begins_ in
     let part = subst (λ l. is_member_at_end l name ≡ true) (sym (take_length_of_beginning at.begins_)) at.member in
-    elim (left.gone name (leaves (length at.upto) (omega arith) (omega arith) part asked)) [
+    elim (left.gone name (leaves (length at.upto) (omega arith) at.from (omega arith) part asked)) [
       | accepted earlier begins_ ↦
           let size = beginning_is_no_longer begins_ in
           let long = length_of_pushed_list earlier (Leave name) in
@@ -149,15 +149,15 @@ module _ (rules : Rules) (events : List Event) (place : ℕ) (may : MayFound rul
         omega arith
 
     -- who is leaving and was a member since what is accepted has departed
-    gone : (name at : ℕ) → m.core.acc ≤ at → at ≤ top m → is_member_at_end (take at list) name ≡ true → (w.nodes name).leaving ≡ true
+    gone : (name at : ℕ) → m.core.acc ≤ at → (told_at m).view_number ≤ at → at ≤ top m → is_member_at_end (take at list) name ≡ true → (w.nodes name).leaving ≡ true
         → has_departed (w.nodes name).status ≡ true
     unfolding is_member_at_end
-    gone name at front within_ member t = split_on_bool (has_departed (w.nodes name).status)
+    gone name at front viewed within_ member t = split_on_bool (has_departed (w.nodes name).status)
         (λ d. d)
         (λ d. absurd (
         let num = (number_bounds_hold_in_runs rules events).each q in
         let b = trimmed_was_taken_in_runs rules events q may few in
-        let none = out name t d at front within_ in
+        let none = out name t d at front viewed within_ in
         let same : log_image_at m.core.log at ≡ image_of_list (take at list) = image_at_of_whole_list w q at m (s.node q) stands (omega arith) in
         cc))
 
@@ -168,8 +168,8 @@ module _ (rules : Rules) (events : List Event) (place : ℕ) (may : MayFound rul
         let num = numbered in
         let counts : has (counting_names_in list number) name ≡ true = ap (λ set. has set name) (sym (counted_at_of_whole_list w q number m (s.node q) stands start_low)) ∙ h in
         let b = old.stands.each name small in
-        let leaves : (at : ℕ) → number ≤ at + 1 → at ≤ length list → is_member_at_end (take at list) name ≡ true → (s.node name).leaving ≡ true
-        → (s.node name).departed ≡ true = λ at near within_ member t. b.departed ∙ gone name at (omega arith) (omega arith) member (sym b.leaving ∙ t) in
+        let leaves : (at : ℕ) → number ≤ at + 1 → (image_of_list list).view_number ≤ at → at ≤ length list → is_member_at_end (take at list) name ≡ true → (s.node name).leaving ≡ true
+        → (s.node name).departed ≡ true = λ at near viewed within_ member t. b.departed ∙ gone name at (omega arith) (omega arith) (omega arith) member (sym b.leaving ∙ t) in
         let there : is_member_at_end list name ≡ true = stays_member s q list number name kept left leads is behind (omega arith) (omega arith) leaves counts in
         ap (λ (g : Image). has (members_of_image g) name) (sym (image_of_whole_list w q m (s.node q) stands)) ∙ there
 

@@ -10,7 +10,7 @@ use Rattle.am_refinement.proofs.Sending.{teller_of_own_promise_leads}
 use Rattle.am_refinement.proofs.WholeSteps.Owns.{run_keeps_own_decisions}
 use Rattle.am_repair.specs.Calm.{is_past}
 use Rattle.am_repair.proofs.RepairLists.{past_row_is_past}
-use Rattle.am_repair.proofs.Known.Beginning.{member_of_repair_runs}
+use Rattle.am_repair.proofs.Known.Beginning.{node_holds_view_and_accepted, member_of_repair_runs}
 use Rattle.am_base.specs.Whole.{image_of_list}
 use Rattle.am_repair.proofs.Repairable.One.{one_sequencer_runs}
 
@@ -49,9 +49,7 @@ lists_itself rules events place may low repair =
 pub listed_member_runs : (rules : Rules) (events : List Event) (place name : ℕ) → MayFound rules → place < 16 → MayRepair (run rules events) place
     → (let w = run rules events in has (members (w.nodes (current w place))) name ≡ true → is_stopped w name ≡ false)
 listed_member_runs rules events place name may low repair there =
-    let few = current_name_is_below_256 rules events place may low in
-    let fronts = ((run_trims_only_taken rules events may).each (current (run rules events) place) few).fronts in
-    member_of_repair_runs (run rules events) place name repair fronts.accepted there
+    member_of_repair_runs (run rules events) place name repair (node_holds_view_and_accepted rules events (current (run rules events) place)) there
 
 pub sequencer_of_repair_runs : (rules : Rules) (events : List Event) (place : ℕ) → MayFound rules → place < 16 → MayRepair (run rules events) place
     → (let w = run rules events in is_stopped w (current w place) ≡ false)
