@@ -6,7 +6,7 @@ use Rattle.am_fetch_laws.proofs.Words.{set_of_one_name, trim_node_up_to, is_memb
 use Rattle.am_fetch_laws.proofs.Words.{entries_to_serve, refresh, refresh_at_end, is_unfetchable_view, is_unfinished_ballot, member_hears_other, end_refresh_rests_with_list, stamp_eq_gives_equality, stamp_eq_of_itself, image_of_pushed_entry, pieces}
 use Rattle.am_fetch_laws.proofs.Words.{IsBehind, MayBeStored, ServesPieces}
 use Rattle.am_fetch_laws.specs.Fetching.{IsAcceptAtMost}
-use Rattle.am_fetch_laws.specs.Exchanges.{ActsInViewOf, TwoNodes, hear_letters, exchange, exchanges, MayCatchUpWith, MayCatchUp, ExchangesBringEntries, ExchangesReachView}
+use Rattle.am_fetch_laws.specs.Exchanges.{HasEightMore, TwoNodes, hear_letters, exchange, exchanges, MayCatchUpWith, MayCatchUp, ExchangesBringEntries, ExchangesReachView}
 use Rattle.am_base.specs.declared.event.NodeEvent.TheVariants as does
 use Rattle.am_base.specs.Founding.{Rules}
 use Rattle.std.proofs.Common.{◌*◌}
@@ -29,12 +29,28 @@ use Rattle.am_fetch_laws.proofs.Serving.{fetches_are_served}
 
 -- ---- a member that acts in a view goes on so
 
-pub record ActsIn (v : Stamp) (m : Node) : Type 0 where
+-- it acts in a list's view, tells what that list tells up to where its own goes, and has taken all up to a base
+pub record ActsAlong (log : Log) (base : ℕ) (m : Node) : Type 0 where
   pub acts : acts_in_its_view m ≡ true
-  pub view_ : view m ≡ v
+  pub view_ : view m ≡ (image_of_log log).view
+  pub low : log.start ≤ top m
+  pub within : top m ≤ top_of_log log
+  pub told_ : image_of_node m ≡ log_image_at log (top m)
+  pub taken : base ≤ m.core.taken
 
-acting_after_end : (v : Stamp) (m : Node) → ActsIn v m → ActsIn v (refresh_at_end m)
-acting_after_end v m h = let r = end_refresh_rests_with_list m in record { acts = acts_after_rest r.rests ∙ h.acts; view_ = r.rests.view ∙ h.view_ }
+-- so it does after the end of a step
+acting_after_end : (log : Log) (base : ℕ) (m : Node) → ActsAlong log base m → ActsAlong log base (refresh_at_end m)
+acting_after_end log base m h =
+    let r = end_refresh_rests_with_list m in
+    let same : top (refresh_at_end m) ≡ top m = ap (λ (l : Log). top_of_log l) r.log in
+    record {
+      acts = acts_after_rest r.rests ∙ h.acts;
+      view_ = r.rests.view ∙ h.view_;
+      low = omega (arith, same, h.low);
+      within = omega (arith, same, h.within);
+      told_ = ap (λ (l : Log). image_of_log l) r.log ∙ h.told_ ∙ ap (log_image_at log) (sym same);
+      taken = omega (arith, r.rests.taken, h.taken);
+    }
 
 -- it ignores Pieces of its view
 pub acting_ignores_piece : (m : Node) (s : ℕ) (base number : ℕ) (e : Entry) → (hear_packet m (Piece s (view m) base number e)).node ≡ refresh_at_end m
@@ -73,7 +89,7 @@ may_be_fetched log base m e h there =
     ap (λ (v : Stamp). is_unfetchable_view v false e) h.promised ∙ (h.fit (top m + 1) e (omega arith) there).1
 
 stored_piece_brings : (log : Log) (base : ℕ) (m : Node) (e : Entry) → MayCatchUpWith log base m → log_entry_at log (top m + 1) ≡ Some e
-    → (let n = refresh_at_end (with_fetched_entry m base e) in ActsIn (image_of_log log).view n ⊎ Brought log base 1 m n)
+    → (let n = refresh_at_end (with_fetched_entry m base e) in ActsAlong log base n ⊎ Brought log base 1 m n)
 stored_piece_brings log base m e h there =
     let p = with_fetched_entry m base e in
     let n = refresh_at_end p in
@@ -85,7 +101,22 @@ stored_piece_brings log base m e h there =
     let listed : is_member n.status ≡ true = ap is_member r.rests.status ∙ h.behind.listed in
     let promised : n.core.promise ≡ (image_of_log log).view = r.rests.promise ∙ h.promised in
     split_on_bool (stamps_are_equal (view n) n.core.promise)
-    (λ t. inl (acts_there n listed (sym (stamp_eq_gives_equality (view n) n.core.promise t)) promised))
+    (λ t. inl (
+    let missing = h.missing in
+    let reached = h.reached in
+    let kept = h.kept in
+    let more = r.rests.taken in
+    let trimmed = h.trimmed in
+    let same = stamp_eq_gives_equality (view n) n.core.promise t in
+    let equal : stamps_are_equal n.core.promise (view n) ≡ true = ap (λ (v : Stamp). stamps_are_equal n.core.promise v) same ∙ stamp_eq_of_itself n.core.promise in
+    record {
+      acts = rw (listed, equal) refl;
+      view_ = same ∙ promised;
+      low = omega arith;
+      within = omega arith;
+      told_ = told ∙ ap (log_image_at log) (sym longer);
+      taken = omega arith;
+    }))
     (λ f.
     let missing = h.missing in
     let short : top m + 1 < at = elim (cases_lt (top m + 1) at) [
@@ -129,13 +160,6 @@ stored_piece_brings log base m e h there =
     longer_by_one : (m : Node) (base : ℕ) (e : Entry) → top (with_fetched_entry m base e) ≡ top m + 1
     longer_by_one m base e = simp length-append (omega arith)
 
-    acts_there : (n : Node) → is_member n.status ≡ true → n.core.promise ≡ view n → n.core.promise ≡ (image_of_log log).view → ActsIn (image_of_log log).view n
-    acts_there n listed same promised = record {
-      acts = (let equal : stamps_are_equal n.core.promise (view n) ≡ true = ap (λ (v : Stamp). stamps_are_equal n.core.promise v) (sym same) ∙ stamp_eq_of_itself n.core.promise in
-          rw (listed, equal) refl);
-      view_ = sym same ∙ promised;
-    }
-
 -- ---- all that are sent
 
 -- so many entries stand in a list, one after the other
@@ -152,8 +176,8 @@ heard_by : (m : Node) (l : Letter) (ls : List Letter) → is_for l m.core.who �
 unfolding hear_letters
 heard_by m l ls t = rw t refl
 
-pieces_leave_acting : (log : Log) (base : ℕ) (q : Node) (es : List Entry) (m : Node) (s number : ℕ) → TellsOf log base q → s ≡ m.core.who → ActsIn (image_of_log log).view m
-    → ActsIn (image_of_log log).view (hear_letters m (pieces q (set_of_one_name s) number es)).node
+pieces_leave_acting : (log : Log) (base : ℕ) (q : Node) (es : List Entry) (m : Node) (s number : ℕ) → TellsOf log base q → s ≡ m.core.who → ActsAlong log base m
+    → ActsAlong log base (hear_letters m (pieces q (set_of_one_name s) number es)).node
 unfolding hear_letters pieces
 pieces_leave_acting log base q [] m s number tells mine h = h
 pieces_leave_acting log base q (e ∷ es) m s number tells mine h =
@@ -164,13 +188,13 @@ pieces_leave_acting log base q (e ∷ es) m s number tells mine h =
     let is : (hear_packet m (piece_packet_of q number e)).node ≡ n = ap (λ (v : Stamp). (hear_packet m (Piece q.core.who v q.core.base number e)).node) viewed
     ∙ acting_ignores_piece m q.core.who q.core.base number e in
     let r = end_refresh_rests_with_list m in
-    subst (λ (x : Node). ActsIn (image_of_log log).view x)
+    subst (λ (x : Node). ActsAlong log base x)
     (sym (heard_by m l (pieces q (set_of_one_name s) (number + 1) es) for ∙ ap (λ x. (hear_letters x (pieces q (set_of_one_name s) (number + 1) es)).node) is))
-    (pieces_leave_acting log base q es n s (number + 1) tells (mine ∙ sym r.rests.who) (acting_after_end (image_of_log log).view m h))
+    (pieces_leave_acting log base q es n s (number + 1) tells (mine ∙ sym r.rests.who) (acting_after_end log base m h))
 
 pieces_bring : (log : Log) (base : ℕ) (q : Node) (es : List Entry) (m : Node) (s number : ℕ) → TellsOf log base q → s ≡ m.core.who → number ≡ top m + 1 → AllStand log number es
     → MayCatchUpWith log base m
-    → (let n = (hear_letters m (pieces q (set_of_one_name s) number es)).node in ActsIn (image_of_log log).view n ⊎ Brought log base (length es) m n)
+    → (let n = (hear_letters m (pieces q (set_of_one_name s) number es)).node in ActsAlong log base n ⊎ Brought log base (length es) m n)
 unfolding hear_letters pieces AllStand
 pieces_bring log base q [] m s number tells mine next stand h = inr (record { more = omega arith; list = h; who = refl; promise = refl })
 pieces_bring log base q (e ∷ es) m s number tells mine next stand h =
@@ -184,7 +208,7 @@ pieces_bring log base q (e ∷ es) m s number tells mine next stand h =
     let is : (hear_packet m (piece_packet_of q number e)).node ≡ x = (λ i. (hear_packet m (Piece (from i) (stamp i) (tells.base_ i) (next i) e)).node)
     ∙ piece_leaves m base (top m + 1) e h.behind (may_be_stored log base m e h there) (may_be_fetched log base m e h there) in
     let all : (hear_letters m (l ∷ rest)).node ≡ (hear_letters x rest).node = heard_by m l rest for ∙ ap (λ y. (hear_letters y rest).node) is in
-    subst (λ (y : Node). ActsIn (image_of_log log).view y ⊎ Brought log base (suc (length es)) m y) (sym all)
+    subst (λ (y : Node). ActsAlong log base y ⊎ Brought log base (suc (length es)) m y) (sym all)
     (elim (stored_piece_brings log base m e h there) [
       | inl acts ↦ inl (pieces_leave_acting log base q es x s (number + 1) tells (mine ∙ sym (end_refresh_rests_with_list (with_fetched_entry m base e)).rests.who) acts)
       | inr b ↦ (let more = b.more in
@@ -341,7 +365,7 @@ exchange_is q m h =
 
 exchange_brings : (q m : Node) → MayCatchUp q m → (let n = refresh_at_end q in
     let y = (exchange (record { sequencer = q; member_ = m })).member_ in
-    ActsIn (view q) y ⊎ Brought q.core.log n.core.base (min 8 (top q - top m)) m y)
+    ActsAlong q.core.log n.core.base y ⊎ Brought q.core.log n.core.base (min 8 (top q - top m)) m y)
 exchange_brings q m h =
     let log = q.core.log in
     let n = refresh_at_end q in
@@ -370,7 +394,7 @@ exchange_brings q m h =
     let none = first.1.more in
     let kept = list.kept in
     let many = how_many_are_served q (top m) kept in
-    subst (λ (y : Node). ActsIn (view q) y ⊎ Brought log base (min 8 (top q - top m)) m y) (sym all)
+    subst (λ (y : Node). ActsAlong log base y ⊎ Brought log base (min 8 (top q - top m)) m y) (sym all)
     (elim (pieces_bring log base n es first.0 m.core.who (top m + 1) tells (sym (first.1.who ∙ rested.who)) (omega arith) (served_entries_stand q (top m) kept) first.1.list) [
       | inl acts ↦ inl acts
       | inr b ↦ (let further = b.more in
@@ -384,15 +408,34 @@ pub record LeadsOn (q n : Node) : Type 0 where
   pub leads : is_sequencer n ≡ is_sequencer q
   pub log : n.core.log ≡ q.core.log
   pub acc : q.core.acc ≤ n.core.acc
+  pub taken : q.core.taken ≤ n.core.taken
   pub base : (refresh_at_end n).core.base ≡ (refresh_at_end q).core.base
 
 pub leads_on_after_end : (q : Node) → LeadsOn q (refresh_at_end q)
 leads_on_after_end q =
     let r = end_refresh_rests_with_list q in
-    record { leads = is_sequencer_after_rest r.rests; log = r.log; acc = r.rests.acc; base = ap (λ (c : CoreState). c.base) (core_after_second_end q) }
+    record {
+      leads = is_sequencer_after_rest r.rests;
+      log = r.log;
+      acc = r.rests.acc;
+      taken = r.rests.taken;
+      base = ap (λ (c : CoreState). c.base) (core_after_second_end q);
+    }
 
 pub leads_on_in_turn : {a b c : Node} → LeadsOn a b → LeadsOn b c → LeadsOn a c
-leads_on_in_turn h k = let a = h.acc in let b = k.acc in record { leads = k.leads ∙ h.leads; log = k.log ∙ h.log; acc = omega arith; base = k.base ∙ h.base }
+leads_on_in_turn h k =
+    let a = h.acc in
+    let b = k.acc in
+    let d = h.taken in
+    let e = k.taken in
+    record { leads = k.leads ∙ h.leads; log = k.log ∙ h.log; acc = omega arith; taken = omega arith; base = k.base ∙ h.base }
+
+-- who acts along the one's list acts along the other's
+abbrev AlongEndOf : Node → Node → Type 0
+AlongEndOf q m = ActsAlong q.core.log (refresh_at_end q).core.base m
+
+pub along_same_lead : (q n m : Node) → LeadsOn q n → AlongEndOf n m → AlongEndOf q m
+along_same_lead q n m k h = subst (λ (l : Log). ActsAlong l (refresh_at_end q).core.base m) k.log (subst (λ base. ActsAlong n.core.log base m) k.base h)
 
 -- who may catch up with the one may catch up with the other
 pub may_catch_up_with_same_lead : (q n m : Node) → LeadsOn q n → MayCatchUp q m → MayCatchUp n m
@@ -407,12 +450,12 @@ leads_on_after_exchange t h =
     let is : (exchange t).sequencer ≡ refresh_at_end t.sequencer = ap (λ (u : TwoNodes). u.sequencer) (exchange_is t.sequencer t.member_ h) ∙ (served_by t.sequencer t.member_ h).node in
     subst (LeadsOn t.sequencer) (sym is) (leads_on_after_end t.sequencer)
 
-pub exchanges_bring_entries : ExchangesBringEntries
-exchanges_bring_entries t h =
+exchange_brings_along : (t : TwoNodes) → MayCatchUp t.sequencer t.member_ → AlongEndOf t.sequencer (exchange t).member_ ⊎ HasEightMore t.member_ (exchange t)
+exchange_brings_along t h =
     let q = t.sequencer in
     let y = exchange t in
     elim (exchange_brings q t.member_ h) [
-      | inl acts ↦ inl (record { acts = acts.acts; view_ = acts.view_ })
+      | inl acts ↦ inl acts
       | inr b ↦
           (let more = b.more in
           let short = b.list.missing in
@@ -428,25 +471,29 @@ exchanges_bring_entries t h =
           }))
     ]
 
--- after enough exchanges the member acts, and the sequencer leads on
+pub exchanges_bring_entries : ExchangesBringEntries
+exchanges_bring_entries t h = elim (exchange_brings_along t h) [
+  | inl acts ↦ inl (record { acts = acts.acts; view_ = acts.view_ })
+  | inr more ↦ inr more
+]
+
+-- after enough exchanges the member acts along the sequencer's list, and the sequencer leads on
 pub exchanges_reach_view_of_lead : (t : TwoNodes) (many : ℕ) → MayCatchUp t.sequencer t.member_ → (image_of_node t.sequencer).view_number ≤ top t.member_ + 8 * many
-    → (n : ℕ) × (n ≤ many) × ActsInViewOf t.sequencer (exchanges n t).member_ × LeadsOn t.sequencer (exchanges n t).sequencer
+    → (n : ℕ) × (n ≤ many) × ActsAlong t.sequencer.core.log (refresh_at_end t.sequencer).core.base (exchanges n t).member_ × LeadsOn t.sequencer (exchanges n t).sequencer
 unfolding exchanges
 exchanges_reach_view_of_lead t zero h far = (let missing = h.list.missing in absurd (omega arith))
 exchanges_reach_view_of_lead t (suc many) h far =
     let on = leads_on_after_exchange t h in
-    elim (exchanges_bring_entries t h) [
+    elim (exchange_brings_along t h) [
       | inl acts ↦ (1, omega arith, acts, on)
       | inr b ↦
           (let more = b.more in
           let number = ap (λ (l : Log). (image_of_log l).view_number) on.log in
-          let rest = exchanges_reach_view_of_lead (exchange t) many b.goes_on (omega arith) in (
-            suc rest.0,
-            omega arith,
-            record { acts = rest.2.acts; view_ = rest.2.view_ ∙ ap (λ (l : Log). (image_of_log l).view) on.log },
-            leads_on_in_turn on rest.3,
-          ))
+          let rest = exchanges_reach_view_of_lead (exchange t) many b.goes_on (omega arith) in
+          (suc rest.0, omega arith, along_same_lead t.sequencer (exchange t).sequencer (exchanges rest.0 (exchange t)).member_ on rest.2, leads_on_in_turn on rest.3))
     ]
 
 pub exchanges_reach_view : ExchangesReachView
-exchanges_reach_view t many h far = let reach = exchanges_reach_view_of_lead t many h far in (reach.0, reach.1, reach.2)
+exchanges_reach_view t many h far =
+    let reach = exchanges_reach_view_of_lead t many h far in
+    (reach.0, reach.1, record { acts = reach.2.acts; view_ = reach.2.view_ })

@@ -2,7 +2,6 @@
 use Rattle.am_fetch_runs.proofs.Words.{◌≡◌, ℕ, zero, suc, ◌+◌, ◌<◌, ◌==◌, true, false, List, [], ◌++◌, refl, sym, ap, ◌∙◌, subst, arith, nat_tests, split_on_bool, eqb-true}
 use Rattle.am_fetch_runs.proofs.Words.{Rules, MayFound, Event, Log, Node, view, members, image_of_node, image_of_log, stamps_are_equal, has, is_sequencer, World, run, is_stopped, names_hold_in_runs, lawful_front}
 use Rattle.am_fetch_runs.proofs.Words.{RunsInListOf, LagsBehind, both_of_and, acts_in_its_view, stamp_eq_gives_equality}
-use Rattle.am_fetch_runs.proofs.Words.{◌≤◌}
 use Rattle.std.proofs.Common.{All}
 use Rattle.std.proofs.lemmas.List.Elements.{All-nil, All-cons, All-append}
 use Rattle.am_base.specs.Names.{place_of_name}
@@ -11,15 +10,19 @@ use Rattle.am_group_defs.specs.World.{current, start}
 unfoldable use Rattle.am_group_defs.specs.World.{world_after_events}
 use Rattle.am_group_defs.proofs.Runs.{runs_go_on}
 use Rattle.am_fetch_laws.specs.Exchanges.{TwoNodes, MayCatchUp, ActsInViewOf}
-use Rattle.am_fetch_laws.proofs.Exchanged.{LeadsOn, leads_on_in_turn, may_catch_up_with_same_lead, exchanges_reach_view_of_lead}
+use Rattle.am_fetch_laws.proofs.Exchanged.{ActsAlong, LeadsOn, leads_on_in_turn, along_same_lead, may_catch_up_with_same_lead, exchanges_reach_view_of_lead}
+use Rattle.am_model.specs.Refresh.{refresh_at_end}
+use Rattle.am_base.specs.Lists.{top_of_log, log_image_at}
+use Rattle.am_model.specs.Node.{top}
+use Rattle.am_fetch_runs.proofs.Alike.{acts_along_list}
+use Rattle.am_fetch_runs.proofs.Words.{run_trims_only_taken}
 use Rattle.am_fetch_runs.specs.Events.{exchange_events, hears_new, tick_of, asked, served}
 unfoldable use Rattle.am_fetch_runs.specs.Events.{hears_from, events_of_exchanges}
 use Rattle.am_fetch_runs.specs.Gathering.{MayGather, IsTickOrHearing, ticks, hears, MembersGather}
 use Rattle.am_fetch_runs.proofs.Events.{differs_back, IsThereNow, two_of, exchanges_happen}
 use Rattle.am_fetch_runs.proofs.Lagging.{lagger_is_another, laggers_may_catch_up}
 use Rattle.am_fetch_runs.proofs.Behind.{group_follows_lawful_run, promised_is_view}
-use Rattle.am_fetch_runs.proofs.Words.{Stamp, length, ◌-◌}
-use Rattle.am_step_laws.proofs.Resets.{stamp_eq_of_itself}
+use Rattle.am_fetch_runs.proofs.Words.{length, ◌-◌}
 use Rattle.am_group_defs.specs.Settle.{event_at}
 
 -- ---- the events
@@ -45,9 +48,9 @@ exchanges_are_of_such (suc left) w q name =
 
 -- ---- on the way
 
--- a name acts in the view, or may catch up with the sequencer
+-- a name acts along the sequencer's list, or may catch up with it
 data IsOnWay (q0 : Node) (v : World) (q name : ℕ) : Type 0 where
-  acts : ActsInViewOf q0 (v.nodes name) → IsOnWay q0 v q name
+  acts : ActsAlong q0.core.log (refresh_at_end q0).core.base (v.nodes name) → IsOnWay q0 v q name
   lags : MayCatchUp (v.nodes q) (v.nodes name) → IsThereNow v name → (q == name) ≡ false → IsOnWay q0 v q name
 
 -- the sequencer leads on, and each member of its list is on its way
@@ -57,8 +60,8 @@ record IsGathering (w v : World) (q : ℕ) : Type 0 where
   there : IsThereNow v q
   each : (name : ℕ) → has (members (w.nodes q)) name ≡ true → IsOnWay (w.nodes q) v q name
 
-abbrev Acts : World → World → ℕ → ℕ → Type 0
-Acts w v q name = ActsInViewOf (w.nodes q) (v.nodes name)
+abbrev pub Acts : World → World → ℕ → ℕ → Type 0
+Acts w v q name = ActsAlong (w.nodes q).core.log (refresh_at_end (w.nodes q)).core.base (v.nodes name)
 
 -- nobody but the members of its list does anything
 pub record SpareOthers (w v x : World) (q : ℕ) : Type 0 where
@@ -78,6 +81,23 @@ record Gathered (w v : World) (q : ℕ) (P : World → Type 0) : Type 0 where
 differs_by_list : (set : List ℕ) (a b : ℕ) → has set a ≡ true → has set b ≡ false → (b == a) ≡ false
 differs_by_list set a b t f = split_on_bool (b == a) (λ same. absurd (let k = ap (has set) (eqb-true b a same) in cc)) (λ g. g)
 
+-- a sequencer that leads on acts on
+acts_on : (log : Log) (base : ℕ) (m n : Node) → LeadsOn m n → is_sequencer n ≡ true → ActsAlong log base m → ActsAlong log base n
+acts_on log base m n on leads h =
+    let same : top n ≡ top m = ap (λ (l : Log). top_of_log l) on.log in
+    let more = on.taken in
+    let low = h.low in
+    let within = h.within in
+    let taken = h.taken in
+    record {
+      acts = (both_of_and (acts_in_its_view n) ((view n).by == n.core.who) leads).0;
+      view_ = ap (λ (l : Log). (image_of_log l).view) on.log ∙ h.view_;
+      low = omega arith;
+      within = omega arith;
+      told_ = ap (λ (l : Log). image_of_log l) on.log ∙ h.told_ ∙ ap (log_image_at log) (sym same);
+      taken = omega arith;
+    }
+
 -- a member that lags comes to act
 gather_lagger : (w v : World) (q name : ℕ) → IsGathering w v q → has (members (w.nodes q)) name ≡ true → MayCatchUp (v.nodes q) (v.nodes name) → IsThereNow v name → (q == name) ≡ false
     → Gathered w v q (λ x. Acts w x q name)
@@ -89,18 +109,14 @@ gather_lagger w v q name h listed may there differ =
     let e = exchanges_happen n v q name (record { leader = h.there; lagger = there; differ = differ }) in
     let on : LeadsOn (v.nodes q) (x.nodes q) = subst (λ (t : TwoNodes). LeadsOn (v.nodes q) t.sequencer) (sym e.two) reach.3 in
     let lead = leads_on_in_turn h.lead on in
-    let old_view = ap (λ (l : Log). (image_of_log l).view) h.lead.log in
-    let now : ActsInViewOf (v.nodes q) (x.nodes name) = subst (λ (t : TwoNodes). ActsInViewOf (v.nodes q) t.member_) (sym e.two) reach.2 in
-    let mine : Acts w x q name = record { acts = now.acts; view_ = now.view_ ∙ old_view } in
-    let its : Acts w x q q = (record {
-      acts = (both_of_and (acts_in_its_view (x.nodes q)) ((view (x.nodes q)).by == (x.nodes q).core.who) (lead.leads ∙ h.leads)).0;
-      view_ = ap (λ (l : Log). (image_of_log l).view) lead.log;
-    }) in
+    let mine : Acts w x q name = along_same_lead (w.nodes q) (v.nodes q) (x.nodes name) h.lead
+    (subst (λ (t : TwoNodes). ActsAlong (v.nodes q).core.log (refresh_at_end (v.nodes q)).core.base t.member_) (sym e.two) reach.2) in
     let keeps : (j : ℕ) → Acts w v q j → Acts w x q j = λ j acts_. split_on_bool (j == q)
-    (λ t. subst (λ i. Acts w x q i) (sym (eqb-true j q t)) its)
+    (λ t. let same = eqb-true j q t in subst (λ i. Acts w x q i) (sym same) (acts_on (w.nodes q).core.log (refresh_at_end (w.nodes q)).core.base (v.nodes q) (x.nodes q) on (lead.leads ∙ h.leads)
+    (subst (λ i. Acts w v q i) same acts_)))
     (λ f. split_on_bool (j == name)
     (λ t. subst (λ i. Acts w x q i) (sym (eqb-true j name t)) mine)
-    (λ g. subst (λ (m : Node). ActsInViewOf (w.nodes q) m) (sym (e.others j f g)) acts_)) in
+    (λ g. subst (λ (m : Node). ActsAlong (w.nodes q).core.log (refresh_at_end (w.nodes q)).core.base m) (sym (e.others j f g)) acts_)) in
     let way : (j : ℕ) → IsOnWay (w.nodes q) v q j → IsOnWay (w.nodes q) x q j = λ j was. (elim was [
       | acts a ↦ acts (keeps j a)
       | lags may_ there_ other ↦ split_on_bool (j == name)
@@ -202,23 +218,19 @@ on_way_first rules events q name may lawful gathers listed =
     } in
     split_on_bool (stamps_are_equal (view m) (view (w.nodes q)))
     (λ t.
-    let same = stamp_eq_gives_equality (view m) (view (w.nodes q)) t in
     let h = group_follows_lawful_run rules events may lawful in
-    let promise = promised_is_view rules w h.0 q name h.1 among (who q) at.promised ∙ sym same in
-    let equal : stamps_are_equal m.core.promise (view m) ≡ true = ap (λ (u : Stamp). stamps_are_equal u (view m)) promise ∙ stamp_eq_of_itself (view m) in
-    let member = at.member_ in
-    acts (record { acts = rw (member, equal) refl; view_ = same }))
+    acts (acts_along_list rules w h.0 q name h.1 among at.trimmed (who q) (run_trims_only_taken rules events may)
+    (promised_is_view rules w h.0 q name h.1 among (who q) at.promised) (stamp_eq_gives_equality (view m) (view (w.nodes q)) t)))
     (λ f.
     let lag : LagsBehind w q name = record { among = among; promised = at.promised; behind = f; trimmed = at.trimmed } in
     lags (laggers_may_catch_up rules events q name may lawful lag) (record { now = at.current_.now; runs = at.current_.runs; who = who name }) (lagger_is_another w q name lag))
 
--- all come to act; the sequencer leads on, and nobody else does anything
+-- all come to act along the sequencer's list; it leads on, and nobody else does anything
 pub record AllGathered (w v : World) (q : ℕ) : Type 0 where
   pub leads : is_sequencer (v.nodes q) ≡ true
-  pub log : (v.nodes q).core.log ≡ (w.nodes q).core.log
-  pub acc : (w.nodes q).core.acc ≤ (v.nodes q).core.acc
+  pub lead : LeadsOn (w.nodes q) (v.nodes q)
   pub spares : SpareOthers w w v q
-  pub act : (name : ℕ) → has (members (w.nodes q)) name ≡ true → ActsInViewOf (w.nodes q) (v.nodes name)
+  pub act : (name : ℕ) → has (members (w.nodes q)) name ≡ true → Acts w v q name
 
 pub members_gather_in_run : (rules : Rules) (events : List Event) (q : ℕ) → MayFound rules → lawful_front rules events ≡ events → MayGather (run rules events) q
     → (more : List Event) × All IsTickOrHearing more × AllGathered (run rules events) (world_after_events (run rules events) more) q
@@ -228,7 +240,7 @@ members_gather_in_run rules events q may lawful gathers =
     let who = (names_hold_in_runs rules events may).who in
     let first : IsGathering w w q = record {
       leads = gathers.leads;
-      lead = record { leads = refl; log = refl; acc = omega arith; base = refl };
+      lead = record { leads = refl; log = refl; acc = omega arith; taken = omega arith; base = refl };
       there = record { now = gathers.current_.now; runs = gathers.current_.runs; who = who q };
       each = λ name listed. on_way_first rules events q name may lawful gathers listed;
     } in
@@ -238,8 +250,7 @@ members_gather_in_run rules events q may lawful gathers =
       all.such,
       record {
         leads = lead.leads ∙ gathers.leads;
-        log = lead.log;
-        acc = lead.acc;
+        lead = lead;
         spares = all.spares;
         act = λ name listed. all.brings name (gathers.each name listed).current_.small listed;
       },
@@ -248,5 +259,9 @@ members_gather_in_run rules events q may lawful gathers =
 pub members_gather : MembersGather
 members_gather rules events q may lawful gathers =
     let w = run rules events in
-    let all = members_gather_in_run rules events q may lawful gathers in
-    (all.0, all.1, λ name listed. subst (λ (x : World). ActsInViewOf (w.nodes q) (x.nodes name)) (sym (runs_go_on (start rules) events all.0)) (all.2.act name listed))
+    let all = members_gather_in_run rules events q may lawful gathers in (
+      all.0,
+      all.1,
+      λ name listed. subst (λ (x : World). ActsInViewOf (w.nodes q) (x.nodes name)) (sym (runs_go_on (start rules) events all.0))
+          (let a = all.2.act name listed in record { acts = a.acts; view_ = a.view_ }),
+    )

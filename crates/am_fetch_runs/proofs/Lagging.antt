@@ -1,9 +1,9 @@
 -- Where a lawful run ends, who lags behind a running sequencer's View may fetch what is missing.
 use Rattle.am_fetch_runs.proofs.Words.{◌≡◌, ℕ, ◌+◌, ◌-◌, ◌<◌, ◌≤◌, ◌==◌, true, false, List, length, take, slice_get, Some, inl, inr, sym, ap, ◌∙◌, subst, arith}
 use Rattle.am_fetch_runs.proofs.Words.{eqb-true, View, Rules, Image, Stamp, Entry, blank, log_image_at, log_entry_at, stamps_are_equal, Node, top, view, World, run}
-use Rattle.am_fetch_runs.proofs.Words.{IsGoodList, IsBeginningOf, is_member_at_end, key_of_stamp, stamp_of_list, image_of_list, beginning_of_good_is_good, shorter_beginning_begins_longer, view_after_pushed_view, name_of_view_is_byte}
-use Rattle.am_fetch_runs.proofs.Words.{length_of_pushed_list, view_key_grows_along_list, image_of_whole_list, length_of_whole_list, view_number_le_length, image_at_of_whole_list, Group, chain_of, list_with_chosen_view, current_of, Following}
-use Rattle.am_fetch_runs.proofs.Words.{image_of_node, GroupKeeps, run_trims_only_taken, names_hold_in_runs, LagsBehind, LaggersMayCatchUp, LaggersReachView}
+use Rattle.am_fetch_runs.proofs.Words.{IsBeginningOf, is_member_at_end, key_of_stamp, stamp_of_list, image_of_list, beginning_of_good_is_good, shorter_beginning_begins_longer, view_after_pushed_view, name_of_view_is_byte}
+use Rattle.am_fetch_runs.proofs.Words.{length_of_pushed_list, view_key_grows_along_list, image_of_whole_list, view_number_le_length, image_at_of_whole_list, Group, list_with_chosen_view, current_of, Following}
+use Rattle.am_fetch_runs.proofs.Words.{image_of_node, run_trims_only_taken, names_hold_in_runs, LagsBehind, LaggersMayCatchUp, LaggersReachView}
 use Rattle.am_base.specs.declared.entry.GroupView.{GroupView}
 use Rattle.am_base.specs.Lists.{fits, row_of_name}
 use Rattle.am_base.proofs.Prefixes.{take_length_of_beginning}
@@ -11,10 +11,8 @@ use Rattle.am_node_defs.proofs.Lives.{entry_fits_at_its_number, unused_places_af
 use Rattle.am_model.specs.Refresh.{refresh_at_end}
 use Rattle.am_model.specs.Calls.{is_unfinished_ballot}
 use Rattle.am_model.specs.Resets.{is_unfetchable_view}
-use Rattle.am_step_laws.proofs.Rests.{end_refresh_rests_with_list}
 use Rattle.am_step_laws.proofs.Resets.{stamp_eq_of_itself}
 use Rattle.am_step_laws.proofs.Trimming.TakenRuns.{WorldTrimsOnlyTaken}
-use Rattle.am_refinement.specs.Standing.{NameStands}
 use Rattle.am_refinement.proofs.Entries.{stamps_of_equal_keys}
 use Rattle.am_refinement.proofs.Parts.{entry_at_of_whole_list}
 use Rattle.am_refinement.proofs.Sending.{last_view_number_and_resilience}
@@ -24,6 +22,7 @@ use Rattle.am_fetch_laws.proofs.Exchanged.{exchanges_reach_view}
 use Rattle.am_fetch_runs.proofs.Lists.{member_at_end_has_not_left, no_view_is_unfetchable, entry_is_above_start}
 use Rattle.am_fetch_runs.proofs.Behind as behind
 use Rattle.am_fetch_runs.proofs.Behind.{group_follows_lawful_run}
+use Rattle.am_fetch_runs.proofs.Alike.{lists_of_both}
 
 -- who lags behind a sequencer is another
 pub lagger_is_another : (w : World) (q name : ℕ) → LagsBehind w q name → (q == name) ≡ false
@@ -45,26 +44,10 @@ module _ (rules : Rules) (w : World) (s : Group) (q name : ℕ) (old : Following
   abbrev list : List Entry
   list = (s.node q).list
 
-  kept : GroupKeeps s
-  kept = behind.kept rules w s q name old lag.among own
-
-  chain : list ≡ chain_of s.views
-  chain = behind.leader_has_chain rules w s q name old lag.among own
-
-  good : IsGoodList list
-  good = subst IsGoodList (sym chain) kept.views.good
-
-  begins : IsBeginningOf (s.node name).list list
-  begins = subst (IsBeginningOf (s.node name).list) (sym chain) ((kept.each name).list (behind.up_there rules w s q name old lag.among own))
+  open lists_of_both rules w s q name old lag.among lag.trimmed own laws use {kept, chain, good, begins, its, stands, long_member, long_leader, base_rises, taken_low, kept_from, told_}
 
   member : is_member_at_end list name ≡ true
   member = subst (λ l. is_member_at_end l name ≡ true) (sym chain) (behind.member_of_chain rules w s q name old lag.among own)
-
-  its : NameStands w q leader (s.node q)
-  its = old.stands.each q lag.among.small_leader
-
-  stands : NameStands w name m (s.node name)
-  stands = old.stands.each name lag.among.small
 
   told_list : image_of_list list ≡ image_of_node leader
   told_list = image_of_whole_list w q leader (s.node q) its
@@ -114,12 +97,6 @@ module _ (rules : Rules) (w : World) (s : Group) (q name : ℕ) (old : Following
   number = ap (λ (i : Image). i.view_number) (sym told_list) ∙ (last_view_number_and_resilience before last list good opens (viewed_list ∙ sym last_is_view)).0
       ∙ sym (length_of_pushed_list before (View last))
 
-  long_member : length (s.node name).list ≡ top m
-  long_member = length_of_whole_list w name m (s.node name) stands
-
-  long_leader : length list ≡ top leader
-  long_leader = length_of_whole_list w q leader (s.node q) its
-
   missing : top m < (image_of_node leader).view_number
   unfolding stamp_of_list
   missing = elim (cases_lt (length (s.node name).list) (length (list_with_chosen_view (current_of s.views)))) [
@@ -155,27 +132,6 @@ module _ (rules : Rules) (w : World) (s : Group) (q name : ℕ) (old : Following
   abbrev base : ℕ
   base = (refresh_at_end leader).core.base
 
-  base_rises : leader.core.base ≤ base
-  base_rises = (end_refresh_rests_with_list leader).rests.base
-
-  start_low : leader.core.log.start ≤ leader.core.base
-  start_low = (laws.each q lag.among.small_leader).fronts.kept
-
-  taken_low : m.core.taken ≤ top m
-  taken_low =
-      let f = (laws.each name lag.among.small).fronts in
-      let given = f.given in
-      let accepted = f.accepted in
-      omega arith
-
-  kept_from : leader.core.log.start ≤ top m
-  kept_from =
-      let a = start_low in
-      let b = base_rises in
-      let c = lag.trimmed in
-      let d = taken_low in
-      omega arith
-
   room : (image_of_node leader).view_number - base ≤ m.core.rules.window + 15
   room =
       let few = (laws.kept q).few in
@@ -185,12 +141,6 @@ module _ (rules : Rules) (w : World) (s : Group) (q name : ℕ) (old : Following
       omega arith
 
   -- ---- what lists tell
-
-  told_ : image_of_node m ≡ log_image_at leader.core.log (top m)
-  told_ = sym (image_of_whole_list w name m (s.node name) stands)
-      ∙ ap image_of_list (sym (take_length_of_beginning begins))
-      ∙ ap (λ n. image_of_list (take n list)) long_member
-      ∙ sym (image_at_of_whole_list w q (top m) leader (s.node q) its kept_from)
 
   viewed : (log_image_at leader.core.log (image_of_node leader).view_number).view ≡ view leader
   unfolding stamp_of_list

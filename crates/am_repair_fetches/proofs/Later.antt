@@ -1,114 +1,189 @@
--- A group whose members have come to its sequencer's view may be repaired.
-use Rattle.am_repair.proofs.RepairWords.{◌≡◌, ℕ, ◌≤◌, ◌==◌, true, false, List, ◌++◌, sym, ap, ◌∙◌, subst, arith, All, split_on_bool, eqb-true, has, members_of_image, log_members_at, Log}
-use Rattle.am_repair.proofs.RepairWords.{top_of_log, image_of_log, Event, Rules, MayFound, Node, top, view, members, is_sequencer, has_departed, World, current, is_stopped, run, runs_go_on, run_trims_only_taken}
-use Rattle.am_repair.proofs.RepairWords.{world_after_events, MayRepair, HasCaughtUp}
+-- A group whose members have come to its sequencer's view has lists that agree, so the schedule repairs it.
+use Rattle.am_repair.proofs.RepairWords.{◌≡◌, ℕ, ◌-◌, ◌≤◌, ◌<◌, true, false, List, ◌++◌, Some, sym, ap, ◌∙◌, subst, arith, split_on_bool, has, members_of_image, Log, All, names_of, fits, log_image_at, log_entry_at}
+use Rattle.am_repair.proofs.RepairWords.{top_of_log, image_of_log, Image, Entry, Event, Rules, MayFound, Node, top, image_of_node, members, is_member, is_stopped, World, current, run, world_after_events, runs_go_on}
+use Rattle.am_repair.proofs.RepairWords.{run_trims_only_taken, WorldTrimsOnlyTaken, MayRepair, Agree, is_past, HasCaughtUp}
+use Rattle.am_base.specs.Fronts.{counting_names_at}
 use Rattle.am_group_defs.specs.Lawful.{lawful_front}
 use Rattle.am_group_defs.specs.Settle.{settle_events}
 use Rattle.am_group_defs.specs.World.{start}
-use Rattle.am_repair.specs.Claim.{IsOut}
-use Rattle.am_repair.proofs.Known.Beginning.{name_out_is_no_member}
-use Rattle.am_repair.proofs.Going.{member_status_has_not_departed}
-use Rattle.am_repair.proofs.Repairable.RepairedSettled.{lossless_schedules_do_repair}
+use Rattle.am_step_laws.proofs.Rests.{end_refresh_rests_with_list}
+use Rattle.am_repair.specs.Standing.{Agrees, HasLeft, IsBeginning, IsOneList}
+use Rattle.am_repair.specs.Trimmed.{CountsMembers}
+use Rattle.am_repair.proofs.Known.Beginning.{HoldsViewAndAccepted, node_holds_view_and_accepted, repairs_where_lists_agree}
+use Rattle.am_repair.proofs.Known.OneLists.{fits_there, has_left, listed_is, part_in_view_has_last_view}
+use Rattle.am_repair.proofs.Known.ReportedRuns.{known_is_taken}
+use Rattle.am_repair.proofs.Repairable.OneList.{running_sequencer_has_one_list}
+use Rattle.am_repair.proofs.Repairable.Counted.{counted_names_are_members}
 use Rattle.am_fetch_runs.specs.Gathering.{IsTickOrHearing}
 use Rattle.am_fetch_runs.proofs.Gathering.{AllGathered, members_gather_in_run}
 use Rattle.am_repair_fetches.specs.Later.{MayRepairLater, GroupsMayBeRepairedLater, GroupsAreRepairedLater}
 use Rattle.am_repair_fetches.proofs.Leaving.{nobody_leaves_by_events}
+use Rattle.am_repair_fetches.proofs.Gathered as gathered
 
--- ---- a group that has gathered
+-- ---- in every lawful run that events like these follow
 
-module _ (w v : World) (place : ℕ) (later : MayRepairLater w place) (g : AllGathered w v (current w place)) (itself : has (members (w.nodes (current w place))) (current w place) ≡ true)
-    (low : (w.nodes (current w place)).core.acc ≤ top (w.nodes (current w place))) (stays : (name : ℕ) → (w.nodes name).leaving ≡ false → (v.nodes name).leaving ≡ false) where
+module _ (rules : Rules) (events more : List Event) (place : ℕ) (may : MayFound rules) (low : place < 16) (lawful : lawful_front rules events ≡ events)
+    (later : MayRepairLater (run rules events) place) (such : All IsTickOrHearing more)
+    (g : AllGathered (run rules events) (run rules (events ++ more)) (current (run rules events) place)) where
+  abbrev w : World
+  w = run rules events
+
+  abbrev v : World
+  v = run rules (events ++ more)
+
   abbrev q : ℕ
   q = current w place
 
-  pub same_name : current v place ≡ q
-  same_name = ap (λ (f : ℕ → ℕ). current (record w { lives = f }) place) g.spares.lives
+  abbrev old : Node
+  old = w.nodes q
 
-  same_members : (name : ℕ) → has (members (v.nodes q)) name ≡ has (members (w.nodes q)) name
-  same_members name = ap (λ (l : Log). has (members_of_image (image_of_log l)) name) g.log
+  abbrev new : Node
+  new = v.nodes q
 
-  -- who isn't listed is as before
-  unlisted_is_other : (name : ℕ) → has (members (w.nodes q)) name ≡ false → (name == q) ≡ false
-  unlisted_is_other name none = split_on_bool (name == q) (λ t. absurd (let k = ap (has (members (w.nodes q))) (eqb-true name q t) in cc)) (λ f. f)
+  laws : WorldTrimsOnlyTaken rules w
+  laws = run_trims_only_taken rules events may
 
-  unlisted_is_same : (name : ℕ) → has (members (w.nodes q)) name ≡ false → v.nodes name ≡ w.nodes name
-  unlisted_is_same name none = g.spares.others name (unlisted_is_other name none) none
+  accepted : HoldsViewAndAccepted old
+  accepted = node_holds_view_and_accepted rules events q
 
-  still_out : (name : ℕ) → has (members (w.nodes q)) name ≡ false → IsOut w (w.nodes q) name → IsOut v (v.nodes q) name
-  still_out name none out = λ here number above within.
-      (let same = unlisted_is_same name none in
-      let rises = g.acc in
-      let long = ap (λ (l : Log). top_of_log l) g.log in
-      ap (λ (l : Log). has (log_members_at l number) name) g.log ∙ out (ap (λ (m : Node). has_departed m.status) (sym same) ∙ here) number (omega arith) (omega arith))
+  itself : has (members old) old.core.who ≡ true
+  itself = (laws.each q later.gathers.current_.small).leads later.gathers.leads
 
-  stopped_is_out : (name : ℕ) → is_stopped v name ≡ true → IsOut v (v.nodes q) name
-  stopped_is_out name t =
-      let before : is_stopped w name ≡ true = ap (λ (xs : List ℕ). is_stopped (record w { stopped = xs }) name) (sym g.spares.stopped) ∙ t in
-      split_on_bool (has (members (w.nodes q)) name)
-      (λ listed. absurd (let runs = (later.gathers.each name listed).current_.runs in cc))
-      (λ none. still_out name none (later.nobody_stopped name before))
+  listed_itself : has (members old) q ≡ true
+  listed_itself = subst (λ i. has (members old) i ≡ true) (laws.blanks.base.named.who q) itself
 
-  listed_stays : (name : ℕ) → has (members (w.nodes q)) name ≡ true → (w.nodes name).leaving ≡ false
-  listed_stays name listed = split_on_bool (w.nodes name).leaving
-      (λ t. absurd (let here = member_status_has_not_departed (w.nodes name) (later.gathers.each name listed).member_ in
-      let none = name_out_is_no_member w (w.nodes q) name low (later.nobody_leaves name t) here in cc))
-      (λ f. f)
+  stays : (name : ℕ) → (w.nodes name).leaving ≡ false → (v.nodes name).leaving ≡ false
+  stays name h = subst (λ (x : World). (x.nodes name).leaving ≡ false) (sym (runs_go_on (start rules) events more)) (nobody_leaves_by_events more w name such h)
 
-  leaver_is_out : (name : ℕ) → (v.nodes name).leaving ≡ true → IsOut v (v.nodes q) name
-  leaver_is_out name t = split_on_bool (has (members (w.nodes q)) name)
-      (λ listed. absurd (let f = stays name (listed_stays name listed) in cc))
-      (λ none. still_out name none (later.nobody_leaves name (ap (λ (m : Node). m.leaving) (sym (unlisted_is_same name none)) ∙ t)))
+  one : IsOneList w old
+  one = running_sequencer_has_one_list rules events place may low lawful later.gathers.leads later.gathers.current_.runs
+
+  own : IsBeginning w old old
+  own = one.each q (later.gathers.each q listed_itself).member_ later.gathers.current_.runs
+
+  counts : CountsMembers old
+  counts = counted_names_are_members rules events place may low lawful later.gathers.leads later.gathers.current_.runs later.nobody_leaves
+
+  same_members : (name : ℕ) → has (members new) name ≡ has (members old) name
+  same_members name = gathered.same_members w v place later g listed_itself accepted stays name
+
+  -- ---- lists
+
+  -- who is listed agrees with the sequencer
+  each_agrees : (name : ℕ) → has (members new) name ≡ true → Agrees new (v.nodes name)
+  each_agrees name there =
+      let listed = sym (same_members name) ∙ there in
+      let m = v.nodes name in
+      let a = g.act name listed in
+      let log = g.lead.log in
+      let number = ap (λ (l : Log). (image_of_log l).view_number) log in
+      let start = ap (λ (l : Log). l.start) log in
+      let long = ap (λ (l : Log). top_of_log l) log in
+      let tops = a.within in
+      let starts = a.low in
+      let reached = part_in_view_has_last_view w old (top m) one.good own a.low a.within (ap (λ (i : Image). i.view) (sym a.told_) ∙ a.view_) in
+      let rises = (end_refresh_rests_with_list new).rests.base in
+      let same = g.lead.base in
+      let taken = a.taken in
+      let known = known_is_taken rules (events ++ more) q name may later.gathers.current_.small (later.gathers.each name listed).current_.small in
+      let who = ap (λ i. (new.reports i).taken) ((run_trims_only_taken rules (events ++ more) may).blanks.base.named.who name) in
+      record {
+        reached = omega arith;
+        low = omega arith;
+        within = omega arith;
+        told_ = a.told_ ∙ ap (λ (l : Log). log_image_at l (top m)) (sym log);
+        base = omega arith;
+        reported = omega arith;
+      }
+
+  -- who isn't is as before
+  alone : (name : ℕ) → is_member (v.nodes name).status ≡ true → is_stopped v name ≡ false → (v.nodes name).leaving ≡ false → has (members new) name ≡ true
+  alone name member goes remains = split_on_bool (has (members old) name)
+      (λ t. same_members name ∙ t)
+      (λ f. absurd (
+      let same = gathered.unlisted_is_same w v place later g listed_itself accepted stays name f in
+      let goes_w : is_stopped w name ≡ false = ap (λ (xs : List ℕ). is_stopped (record w { stopped = xs }) name) (sym g.spares.stopped) ∙ goes in
+      let t = listed_is w old name own (one.listed name (ap (λ (m : Node). is_member m.status) (sym same) ∙ member) goes_w (ap (λ (m : Node). m.leaving) (sym same) ∙ remains)) in
+      cc))
+
+  left : (name : ℕ) → is_member (v.nodes name).status ≡ true → is_stopped v name ≡ false → (v.nodes name).leaving ≡ true → HasLeft new (v.nodes name)
+  left name member goes leaves = split_on_bool (has (members old) name)
+      (λ t. absurd (let f = stays name (gathered.listed_stays w v place later g listed_itself accepted stays name t) in cc))
+      (λ f.
+      let same = gathered.unlisted_is_same w v place later g listed_itself accepted stays name f in
+      let goes_w : is_stopped w name ≡ false = ap (λ (xs : List ℕ). is_stopped (record w { stopped = xs }) name) (sym g.spares.stopped) ∙ goes in
+      let leaves_w : (w.nodes name).leaving ≡ true = ap (λ (m : Node). m.leaving) (sym same) ∙ leaves in
+      let h = has_left rules events place name may leaves_w (later.nobody_leaves name leaves_w) accepted one own itself (ap (λ (m : Node). is_member m.status) (sym same) ∙ member) goes_w in
+      subst (λ (m : Node). HasLeft new m) (sym same)
+      (record { past = ap (λ (l : Log). is_past (image_of_log l) (w.nodes name).core.who) g.lead.log ∙ h.past; tells = h.tells }))
+
+  fit : (number : ℕ) (e : Entry) → log_entry_at new.core.log number ≡ Some e → fits (log_image_at new.core.log (number - 1)) e ≡ true
+  fit number e there = subst (λ (l : Log). log_entry_at l number ≡ Some e → fits (log_image_at l (number - 1)) e ≡ true) (sym g.lead.log)
+      (λ at. fits_there w old number e one.good own at) there
+
+  counted : (number : ℕ) → new.core.acc < number → number ≤ top new → (image_of_node new).view_number ≤ number
+      → All (λ name. has (members new) name ≡ true) (names_of (counting_names_at new.core.log number))
+  counted number above within view_ =
+      let log = g.lead.log in
+      let more_ = g.lead.acc in
+      let long = ap (λ (l : Log). top_of_log l) log in
+      let at = ap (λ (l : Log). (image_of_log l).view_number) log in
+      subst (λ (l : Log). All (λ name. has (members_of_image (image_of_log l)) name ≡ true) (names_of (counting_names_at l number))) (sym log)
+      (counts number (omega arith) (omega arith) (omega arith))
+
+  same_place : current v place ≡ q
+  same_place = gathered.same_name w v place later g listed_itself accepted stays
+
+  pub gathered_lists_agree : Agree v (v.nodes (current v place))
+  gathered_lists_agree = subst (λ i. Agree v (v.nodes i)) (sym same_place) (record { each = each_agrees; alone = alone; left = left; fit = fit; counted = counted })
 
   pub gathered_may_repair : MayRepair v place
-  gathered_may_repair = record {
-    leads = subst (λ i. is_sequencer (v.nodes i) ≡ true) (sym same_name) g.leads;
-    nobody_stopped = λ name t. subst (λ i. IsOut v (v.nodes i) name) (sym same_name) (stopped_is_out name t);
-    nobody_leaves = λ name t. subst (λ i. IsOut v (v.nodes i) name) (sym same_name) (leaver_is_out name t);
-    all_act = λ name there.
-        (let listed = sym (same_members name) ∙ subst (λ i. has (members (v.nodes i)) name ≡ true) same_name there in
-        let a = g.act name listed in
-        (a.acts, a.view_ ∙ sym (ap (λ (l : Log). (image_of_log l).view) g.log) ∙ ap (λ i. view (v.nodes i)) (sym same_name)));
-  }
+  gathered_may_repair = gathered.gathered_may_repair w v place later g listed_itself accepted stays
 
--- ---- in every lawful run
+-- ---- the claims
 
 -- the events, and what the longer run comes to
-record Later (rules : Rules) (events : List Event) (place : ℕ) : Type 0 where
-  more : List Event
-  such : All IsTickOrHearing more
-  may : MayRepair (run rules (events ++ more)) place
-  log : ((run rules (events ++ more)).nodes (current (run rules (events ++ more)) place)).core.log ≡ ((run rules events).nodes (current (run rules events) place)).core.log
+pub record Later (rules : Rules) (events : List Event) (place : ℕ) : Type 0 where
+  pub more : List Event
+  pub such : All IsTickOrHearing more
+  pub all : AllGathered (run rules events) (run rules (events ++ more)) (current (run rules events) place)
+  pub may : MayRepair (run rules (events ++ more)) place
+  pub agree : Agree (run rules (events ++ more)) ((run rules (events ++ more)).nodes (current (run rules (events ++ more)) place))
+  pub same : current (run rules (events ++ more)) place ≡ current (run rules events) place
 
-gathers_later : (rules : Rules) (events : List Event) (place : ℕ) → MayFound rules → lawful_front rules events ≡ events → MayRepairLater (run rules events) place → Later rules events place
-gathers_later rules events place may lawful later =
+pub gathers_later : (rules : Rules) (events : List Event) (place : ℕ) → MayFound rules → place < 16 → lawful_front rules events ≡ events → MayRepairLater (run rules events) place
+    → Later rules events place
+gathers_later rules events place may low lawful later =
     let w = run rules events in
     let q = current w place in
     let g = members_gather_in_run rules events q may lawful later.gathers in
-    let v = world_after_events w g.0 in
-    let laws = run_trims_only_taken rules events may in
-    let kept = laws.each q later.gathers.current_.small in
-    let itself = subst (λ i. has (members (w.nodes q)) i ≡ true) (laws.blanks.base.named.who q) (kept.leads later.gathers.leads) in
-    let stays : (name : ℕ) → (w.nodes name).leaving ≡ false → (v.nodes name).leaving ≡ false = λ name h. nobody_leaves_by_events g.0 w name g.1 h in
-    let is : run rules (events ++ g.0) ≡ v = runs_go_on (start rules) events g.0 in
+    let all : AllGathered w (run rules (events ++ g.0)) q = subst (λ (u : World). AllGathered w u q) (sym (runs_go_on (start rules) events g.0)) g.2 in
     record {
       more = g.0;
       such = g.1;
-      may = subst (λ (u : World). MayRepair u place) (sym is) (gathered_may_repair w v place later g.2 itself kept.fronts.accepted stays);
-      log = ap (λ (u : World). (u.nodes (current u place)).core.log) is
-          ∙ ap (λ i. (v.nodes i).core.log) (same_name w v place later g.2 itself kept.fronts.accepted stays) ∙ g.2.log;
+      all = all;
+      may = gathered_may_repair rules events g.0 place may low lawful later g.1 all;
+      agree = gathered_lists_agree rules events g.0 place may low lawful later g.1 all;
+      same = ap (λ (f : ℕ → ℕ). current (record w { lives = f }) place) all.spares.lives;
     }
 
+-- the list is the same
+pub same_list_later : (rules : Rules) (events : List Event) (place : ℕ) (h : Later rules events place)
+    → ((run rules (events ++ h.more)).nodes (current (run rules (events ++ h.more)) place)).core.log ≡ ((run rules events).nodes (current (run rules events) place)).core.log
+same_list_later rules events place h = ap (λ i. ((run rules (events ++ h.more)).nodes i).core.log) h.same ∙ h.all.lead.log
+
 pub groups_may_be_repaired_later : GroupsMayBeRepairedLater
-groups_may_be_repaired_later rules events place may small lawful later = let h = gathers_later rules events place may lawful later in (h.more, h.such, h.may)
+groups_may_be_repaired_later rules events place may small lawful later = let h = gathers_later rules events place may small lawful later in (h.more, h.such, h.may)
 
 pub groups_are_repaired_later : GroupsAreRepairedLater
 groups_are_repaired_later rules events place may small lawful later =
-    let h = gathers_later rules events place may lawful later in
-    let v = run rules (events ++ h.more) in (
+    let h = gathers_later rules events place may small lawful later in
+    let v = run rules (events ++ h.more) in
+    let log = same_list_later rules events place h in (
       h.more,
       h.such,
-      λ longer name listed.
-          (let there : has (members (v.nodes (current v place))) name ≡ true = ap (λ (l : Log). has (members_of_image (image_of_log l)) name) h.log ∙ listed in
-          subst (λ n. HasCaughtUp ((world_after_events v (settle_events rules v)).nodes name) n) (ap (λ (l : Log). top_of_log l) h.log)
-          (lossless_schedules_do_repair rules (events ++ h.more) place may small longer h.may name there)),
+      λ name listed.
+          (let there : has (members (v.nodes (current v place))) name ≡ true = ap (λ (l : Log). has (members_of_image (image_of_log l)) name) log ∙ listed in
+          subst (λ n. HasCaughtUp ((world_after_events v (settle_events rules v)).nodes name) n) (ap (λ (l : Log). top_of_log l) log)
+          (repairs_where_lists_agree rules (events ++ h.more) place may small h.may h.agree name there)),
     )

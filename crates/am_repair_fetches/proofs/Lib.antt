@@ -1,2 +1,5 @@
 pub mod Leaving
+pub mod Gathered
 pub mod Later
+pub mod Unasked
+pub mod Answered

@@ -22,7 +22,7 @@ GroupsMayBeRepairedLater = (rules : Rules) (events : List Event) (place : ℕ) �
     → MayRepairLater (run rules events) place
     → (more : List Event) × All IsTickOrHearing more × MayRepair (run rules (events ++ more)) place
 
--- and if the longer run is lawful, the schedule then brings each member to where the sequencer stood
+-- and the schedule then brings each member to where the sequencer stood
 abbrev pub IsRepairedAfter : Rules → List Event → List Event → ℕ → Type 0
 IsRepairedAfter rules events more place = let w = run rules events in let v = run rules (events ++ more) in (name : ℕ) → has (members (w.nodes (current w place))) name ≡ true
     → HasCaughtUp ((world_after_events v (settle_events rules v)).nodes name) (top (w.nodes (current w place)))
@@ -30,4 +30,4 @@ IsRepairedAfter rules events more place = let w = run rules events in let v = ru
 abbrev pub GroupsAreRepairedLater : Type 0
 GroupsAreRepairedLater = (rules : Rules) (events : List Event) (place : ℕ) → MayFound rules → place < 16 → lawful_front rules events ≡ events
     → MayRepairLater (run rules events) place
-    → (more : List Event) × All IsTickOrHearing more × (lawful_front rules (events ++ more) ≡ events ++ more → IsRepairedAfter rules events more place)
+    → (more : List Event) × All IsTickOrHearing more × IsRepairedAfter rules events more place

@@ -1,11 +1,19 @@
-//! Laws of repair where members don't have the sequencer's View yet: they fetch it, and then the group may be repaired (docs/REPAIR.md).
+//! Laws of repair where members don't have the sequencer's View yet: they fetch it, then the group may be repaired, and then what its members
+//! sent is answered (docs/REPAIR.md).
 #![tactic(auto)]
 
 ghost use Rattle.am_repair_fetches.specs.Later.{GroupsAreRepairedLater, GroupsMayBeRepairedLater};
+ghost use Rattle.am_repair_fetches.specs.Rest.{SendsAreAnsweredLater};
 
 /// Where a lawful run ends with a group that could be repaired if all members of its sequencer's list had the View, there are ticks and hearings
-/// after which it may be repaired. If the longer run is lawful, too, the lossless schedule then repairs it, up to where its sequencer stood first.
+/// after which it may be repaired. The lossless schedule then repairs it, up to where its sequencer stood first.
 pub fn groups_are_repaired_later()
     ensures may { GroupsMayBeRepairedLater }
     ensures repaired { GroupsAreRepairedLater }
+{}
+
+/// Where nobody who runs asks to join either, there are ticks and hearings after which so many rounds in which applications take, and any more,
+/// have all answered: each member of the sequencer's list has all up to where it stood first, its application too, and no own send is pending.
+pub fn sends_are_answered_later()
+    ensures { SendsAreAnsweredLater }
 {}

@@ -273,7 +273,7 @@ leading_changes rules r taken w last total q m n by calm tells none few long lis
 -- ---- who asks, and what was sent
 
 -- a tick or a take, or a letter
-abbrev IsMild : Cause → Type 0
+abbrev pub IsMild : Cause → Type 0
 IsMild (calls does.Tick) = Unit {0}
 IsMild (calls does.Take) = Unit {0}
 IsMild (calls event) = ⊥
@@ -285,9 +285,9 @@ calm_mild r w (calls event) h = absurd h
 calm_mild r w _ h = tt
 
 -- it isn't asking, and has sent no more
-record IsSame (m n : Node) : Type 0 where
-  asks : is_asking_status m.status ≡ false → is_asking_status n.status ≡ false
-  last : n.sends.last ≡ m.sends.last
+pub record IsSame (m n : Node) : Type 0 where
+  pub asks : is_asking_status m.status ≡ false → is_asking_status n.status ≡ false
+  pub last : n.sends.last ≡ m.sends.last
 
 same_looked : (m : Node) (b : Ballot) (v : BallotVerdict) → LooksAtBallot m b v → IsSame m v.node
 same_looked m b v (finds_itself_out x) = record { asks = λ f. f; last = refl }
@@ -306,7 +306,7 @@ same_change m n mild (closes leads leaves alone room) =
 same_change m n mild (collects req is) = absurd (subst IsMild is mild)
 same_change m n mild _ = record { asks = λ f. f; last = refl }
 
-same_changes : {c : Cause} {o : Outcome} (m n : Node) → IsMild c → Changes c o m n → IsSame m n
+pub same_changes : {c : Cause} {o : Outcome} (m n : Node) → IsMild c → Changes c o m n → IsSame m n
 same_changes m n mild no_change = record { asks = λ f. f; last = refl }
 same_changes m n mild (changed {n = x} one more) =
     let a = same_change m x mild one in

@@ -3,7 +3,6 @@
 use Rattle.am_repair.proofs.RepairWords.{◌≡◌, ℕ, ◌+◌, ◌*◌, ◌/◌, ◌<◌, ◌==◌, true, false, List, [], ◌∷◌, Some, None, refl, sym, ap, ◌∙◌, subst, arith, nat_lt, both_of_and, split_on_bool, eqb-true}
 use Rattle.am_repair.proofs.RepairWords.{Rules, MayFound, Event, Node, top, image_of_node, step, World, current, run, MayRepair, told_image_is_used, image_at_top_is_told, log_image_at, log_members_at, members_of_image}
 use Rattle.am_repair.proofs.RepairWords.{row, finish}
-use Rattle.am_group_defs.specs.Lawful.{lawful_front}
 use Rattle.am_step_laws.proofs.Words.{find, length-map, OwnSend, Option, done_row, member_life_of_row}
 use Rattle.am_base.specs.declared.outcome.Outcome.TheVariants as said
 use Rattle.am_node_defs.specs.Sends as own
@@ -20,6 +19,9 @@ use Rattle.am_repair_takes.specs.Resting.{NobodyAsks, unnumbered_in}
 use Rattle.am_repair_takes.specs.Rest.{HasNoPending, SendsAreAnswered}
 use Rattle.am_repair_takes.proofs.Rounds.{many_rounds, rounds_are}
 use Rattle.am_repair_takes.proofs.Quiet.{QuietRun}
+use Rattle.am_repair.specs.Standing.{Agree}
+use Rattle.am_repair.proofs.RepairWords.{has, members}
+use Rattle.am_repair_takes.proofs.Starts.{Starts}
 use Rattle.am_repair_takes.proofs.Begins.{starts_first}
 use Rattle.am_repair_takes.proofs.Blocks.{Stands, stands_stays, stays_rounds}
 use Rattle.am_repair_takes.proofs.RestRounds.{AllSettled, rests}
@@ -62,14 +64,13 @@ all_answered m line done req = by (find (send_has_request req) m.sends.queue) re
 
 -- ---- where the rounds begin
 
-first_quiet : (rules : Rules) (events : List Event) (place : ℕ) → MayFound rules → place < 16 → lawful_front rules events ≡ events → MayRepair (run rules events) place
-    → NobodyAsks (run rules events) → (let w = run rules events in let q = current w place in
+first_quiet : (rules : Rules) (events : List Event) (place : ℕ) → MayFound rules → place < 16 → MayRepair (run rules events) place
+    → Agree (run rules events) ((run rules events).nodes (current (run rules events) place)) → NobodyAsks (run rules events) → (let w = run rules events in let q = current w place in
     QuietRun rules (repair_of_place w q) (λ name. (w.nodes name).sends.last) (top (w.nodes q) + unnumbered_in w q) w)
-first_quiet rules events place may low lawful repair asks =
+first_quiet rules events place may low repair agree asks =
     let w = run rules events in
     let q = current w place in
     let m = w.nodes q in
-    let agree = repairable_lists_agree rules events place may low lawful repair in
     let b = (repairable_run_is_calm rules events place may low repair agree).0 in
     let fine = b.fine in
     let used = told_image_is_used m (fine.laws.each q (member_of_repair_is_small rules (repair_of_place w q) w q fine fine.calm.listed)).fronts in
@@ -94,9 +95,13 @@ first_quiet rules events place may low lawful repair asks =
       };
     }
 
-pub sends_are_answered : SendsAreAnswered
+-- where lists agree, and each member's list begins where it joined or before
+pub sends_are_answered_where_lists_agree : (rules : Rules) (events : List Event) (place more : ℕ) → MayFound rules → place < 16 → MayRepair (run rules events) place
+    → (let w = run rules events in let q = current w place in Agree w (w.nodes q) → Starts (repair_of_place w q) w → NobodyAsks w
+    → (name : ℕ) → has (members (w.nodes q)) name ≡ true
+    → HasNoPending ((after_rounds (round_count rules + 6 * unnumbered_in w q + more) w).nodes name))
 unfolding AllSettled
-sends_are_answered rules events place more may low lawful repair asks name there =
+sends_are_answered_where_lists_agree rules events place more may low repair agree starts asks name there =
     let w = run rules events in
     let q = current w place in
     let r = repair_of_place w q in
@@ -105,9 +110,8 @@ sends_are_answered rules events place more may low lawful repair asks name there
     let total = top (w.nodes q) + left in
     let k = round_count rules + 6 * left + more in
     let many = (rules.window + 22) / 8 in
-    let quiet = first_quiet rules events place may low lawful repair asks in
-    let starts = starts_first rules events place may low lawful repair in
-    let b = repairable_run_is_calm rules events place may low repair (repairable_lists_agree rules events place may low lawful repair) in
+    let quiet = first_quiet rules events place may low repair agree asks in
+    let b = repairable_run_is_calm rules events place may low repair agree in
     let few = b.1 in
     let settled = rests left rules r last total many left k w (omega arith) (omega arith) (record {
       quiet = quiet;
@@ -129,3 +133,8 @@ sends_are_answered rules events place more may low lawful repair asks name there
     line_of : (v : World) (es : List Event) → v ≡ run rules es → unsettled_sends_are_in_line (v.nodes name).sends.last (v.nodes name).sends.queue ≡ true
     line_of v es is = subst (λ (u : World). unsettled_sends_are_in_line (u.nodes name).sends.last (u.nodes name).sends.queue ≡ true) (sym is)
         ((run_sends_have_gone_out rules es may).lined name).line
+
+pub sends_are_answered : SendsAreAnswered
+sends_are_answered rules events place more may low lawful repair asks =
+    sends_are_answered_where_lists_agree rules events place more may low repair (repairable_lists_agree rules events place may low lawful repair)
+    (starts_first rules events place may low lawful repair) asks

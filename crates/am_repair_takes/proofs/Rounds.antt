@@ -4,6 +4,11 @@ use Rattle.am_repair_takes.proofs.Words.{Rules, has, top, Settling, settle_then,
 use Rattle.am_repair_takes.proofs.Words.{WorldKeepsLawsAndCalm, laws_and_calm_stay, letters_grow_by_event, takes, taking_round, taking_rounds, after_rounds, HasAll, TakingRepairs, HasCaughtUp}
 use Rattle.am_repair_takes.proofs.Words.{world_after_waves, round_world_is_after_waves, StaysThroughSchedule, property_stays_through_round, round_stores_eight_more, MemberHasStored, AllMembersHaveStored, AllMembersAreKnown, round_makes_storage_known, round_accepts_what_is_known}
 use Rattle.am_repair_takes.proofs.Words.{sequencer_accepts_after_waves, ◌-◌, ◌/◌, repair_of_place, repairable_run_is_calm, repairable_lists_agree, round_count, RepairedByTaking, current}
+use Rattle.am_repair.specs.Claim.{MayRepair}
+use Rattle.am_repair.specs.Standing.{Agree}
+use Rattle.am_base.specs.Founding.{MayFound}
+use Rattle.am_model.specs.Node.{members}
+use Rattle.am_repair_takes.proofs.Words.{List, Event, ◌<◌}
 use Rattle.am_repair_takes.proofs.Calm.{take_goes, take_fine}
 use Rattle.am_repair_takes.proofs.Given.{takes_keep, takes_give}
 
@@ -145,14 +150,21 @@ taking_repairs rules events r many may calm sent near name there =
       each = λ i here other. (let have = near i here in record { fine = fine; stored_ = omega arith });
     }) name there
 
-pub repaired_by_taking : RepairedByTaking
-repaired_by_taking rules events place more may low lawful repair name there =
+-- where lists agree
+pub repaired_by_taking_where_lists_agree : (rules : Rules) (events : List Event) (place more : ℕ) → MayFound rules → place < 16 → MayRepair (run rules events) place
+    → (let w = run rules events in let q = current w place in Agree w (w.nodes q) → (name : ℕ) → has (members (w.nodes q)) name ≡ true
+    → HasAll (after_rounds (round_count rules + more) w) name (top (w.nodes q)))
+repaired_by_taking_where_lists_agree rules events place more may low repair agree name there =
     let w = run rules events in
     let q = current w place in
     let k = (rules.window + 22) / 8 + more in
-    let b = repairable_run_is_calm rules events place may low repair (repairable_lists_agree rules events place may low lawful repair) in
+    let b = repairable_run_is_calm rules events place may low repair agree in
     let behind = b.1 in
     let enough : top (w.nodes q) ≤ (w.nodes q).core.base + 8 * k = omega arith in
     let count : round_count rules + more ≡ k + 2 = omega arith in
     subst (λ n. HasAll (after_rounds n w) name (top (w.nodes q))) (sym count)
     (all_have rules (repair_of_place w q) k (w.nodes q).core.base w enough b.0 name there)
+
+pub repaired_by_taking : RepairedByTaking
+repaired_by_taking rules events place more may low lawful repair =
+    repaired_by_taking_where_lists_agree rules events place more may low repair (repairable_lists_agree rules events place may low lawful repair)

@@ -91,9 +91,9 @@ joined_stays set high log name k goes there low within =
 -- ---- where a list begins
 
 -- once there is a list it begins where it began
-record BeginsAsBefore (m n : Node) : Type 0 where
-  start : n.core.start ≡ m.core.start
-  log : has_log_by_status n.status ≡ true
+pub record BeginsAsBefore (m n : Node) : Type 0 where
+  pub start : n.core.start ≡ m.core.start
+  pub log : has_log_by_status n.status ≡ true
 
 looked_before : (m : Node) (b : Ballot) (v : BallotVerdict) → has_log_by_status m.status ≡ true → LooksAtBallot m b v → BeginsAsBefore m v.node
 looked_before m b v has_ (finds_itself_out x) = record { start = refl; log = has_ }
@@ -115,7 +115,7 @@ begins_before m n has_ (closes leads leaves alone room) =
     let r = end_refresh_rests_with_list (push_entry m (Leave m.core.who)) in record { start = r.begins; log = refl }
 begins_before m n has_ _ = record { start = refl; log = has_ }
 
-changes_before : {c : Cause} {o : Outcome} (m n : Node) → has_log_by_status m.status ≡ true → Changes c o m n → BeginsAsBefore m n
+pub changes_before : {c : Cause} {o : Outcome} (m n : Node) → has_log_by_status m.status ≡ true → Changes c o m n → BeginsAsBefore m n
 changes_before m n has_ unchanged = record { start = refl; log = has_ }
 changes_before m n has_ (changed {n = x} one more) =
     let a = begins_before m x has_ one in

@@ -3,6 +3,9 @@ use Rattle.am_repair.proofs.RepairWords.{false_from_ne_true, inl, inr, ◌≡◌
 use Rattle.am_repair.proofs.RepairWords.{List, Event, ◌+◌, MayFound, Rules, place_of_name, life_of_name, has, members_of_image, log_members_at, image_at_top_is_told, Node, top, image_of_node, view, members, acts_in_its_view}
 use Rattle.am_repair.proofs.RepairWords.{is_member, stranger_node, has_departed, World, current, is_stopped, run, MayRepair, WorldTrimsOnlyTaken, run_trims_only_taken}
 use Rattle.am_repair.proofs.RepairWords.{IsAtRest, Repair, LeadsCalmly, ◌≤◌, split_on_bool, FollowsView, IsApart, IsLeaver, is_past, Calm, Agree, RepairsWhereListsAgree}
+use Rattle.am_repair.proofs.RepairWords.{max}
+use Rattle.am_step_laws.proofs.Numbers.Images.{image_at_up_to_number}
+use Rattle.am_step_laws.proofs.Numbers.RunCounts.{number_bounds_hold_in_runs, run_has_low_numbers}
 use Rattle.am_repair.specs.Claim.{IsOut}
 use Rattle.am_repair.proofs.Nodes.{acting_member_promised_its_view, sequencer_acts_by_own_view, acting_node_has_no_ballot}
 use Rattle.am_repair.proofs.Going.{member_status_has_not_departed}
@@ -32,20 +35,32 @@ acting_name_is_small rules w name laws a = elim (cases_lt name 256) [
 acting_there : (m : Node) → acts_in_its_view m ≡ true → has_departed m.status ≡ false
 acting_there m a = member_status_has_not_departed m (acting_member_promised_its_view m a).0
 
+-- what a node has accepted, and its list's last View, stand in its list
+abbrev pub HoldsViewAndAccepted : Node → Type 0
+HoldsViewAndAccepted q = max q.core.acc (image_of_node q).view_number ≤ top q
+
+-- so it is of each node of each run
+pub node_holds_view_and_accepted : (rules : Rules) (events : List Event) (name : ℕ) → HoldsViewAndAccepted ((run rules events).nodes name)
+node_holds_view_and_accepted rules events name =
+    let m = (run rules events).nodes name in
+    let up = (image_at_up_to_number m.core.log (top m) (omega arith) ((run_has_low_numbers rules events).images name)).view in
+    let same = ap (λ (i : Image). i.view_number) (image_at_top_is_told m.core.log) in
+    omega (arith, ((number_bounds_hold_in_runs rules events).each name).accepted)
+
 -- who is out is no member of the sequencer's list
-pub name_out_is_no_member : (w : World) (q : Node) (name : ℕ) → q.core.acc ≤ top q → IsOut w q name → has_departed (w.nodes name).status ≡ false
+pub name_out_is_no_member : (w : World) (q : Node) (name : ℕ) → HoldsViewAndAccepted q → IsOut w q name → has_departed (w.nodes name).status ≡ false
     → has (members q) name ≡ false
-name_out_is_no_member w q name low out here = ap (λ (i : Image). has (members_of_image i) name) (sym (image_at_top_is_told q.core.log)) ∙ out here (top q) low (omega arith)
+name_out_is_no_member w q name low out here = ap (λ (i : Image). has (members_of_image i) name) (sym (image_at_top_is_told q.core.log)) ∙ out here (top q) (omega arith) (omega arith) (omega arith)
 
 -- who acts and is a member of its list runs, and isn't leaving
 pub member_of_repair_runs : (w : World) (place name : ℕ) → MayRepair w place
-    → (let q = w.nodes (current w place) in q.core.acc ≤ top q → has (members q) name ≡ true → is_stopped w name ≡ false)
+    → (let q = w.nodes (current w place) in HoldsViewAndAccepted q → has (members q) name ≡ true → is_stopped w name ≡ false)
 member_of_repair_runs w place name may low there = false_from_ne_true (is_stopped w name)
     (λ t. (let none = name_out_is_no_member w (w.nodes (current w place)) name low (may.nobody_stopped name t) (acting_there (w.nodes name) (may.all_act name there).0)
     in cc))
 
 member_stays : (w : World) (place name : ℕ) → MayRepair w place
-    → (let q = w.nodes (current w place) in q.core.acc ≤ top q → has (members q) name ≡ true → (w.nodes name).leaving ≡ false)
+    → (let q = w.nodes (current w place) in HoldsViewAndAccepted q → has (members q) name ≡ true → (w.nodes name).leaving ≡ false)
 member_stays w place name may low there = false_from_ne_true (w.nodes name).leaving
     (λ t. (let none = name_out_is_no_member w (w.nodes (current w place)) name low (may.nobody_leaves name t) (acting_there (w.nodes name) (may.all_act name there).0)
     in cc))
@@ -86,11 +101,17 @@ record Begun (rules : Rules) (w : World) (place : ℕ) : Type 0 where
   agree : Agree w (w.nodes (current w place))
   leaves : (name : ℕ) → LeavingNodeHasLogNoBallot (w.nodes name)
 
-within : (rules : Rules) (w : World) (place : ℕ) → Begun rules w place → (let q = w.nodes (current w place) in q.core.acc ≤ top q)
+listed : (rules : Rules) (w : World) (place : ℕ) → Begun rules w place → has (members (w.nodes (current w place))) (current w place) ≡ true
+listed rules w place b =
+    let q = current w place in
+    let a = (sequencer_acts_by_own_view (w.nodes q) b.may.leads).0 in
+    subst (λ i. has (members (w.nodes q)) i ≡ true) (b.laws.blanks.base.named.who q) ((b.laws.each q (acting_name_is_small rules w q b.laws a)).leads b.may.leads)
+
+within : (rules : Rules) (w : World) (place : ℕ) → Begun rules w place → (let q = w.nodes (current w place) in HoldsViewAndAccepted q)
 within rules w place b =
     let q = current w place in
     let f = (b.laws.each q (acting_name_is_small rules w q b.laws (sequencer_acts_by_own_view (w.nodes q) b.may.leads).0)).fronts in
-    f.accepted
+    omega (arith, f.accepted, (b.agree.each q (listed rules w place b)).reached)
 
 at_rest : (rules : Rules) (w : World) (place name : ℕ) → Begun rules w place → has (members (w.nodes (current w place))) name ≡ true
     → IsAtRest (w.nodes name)
@@ -100,12 +121,6 @@ at_rest rules w place name b there =
       stays = member_stays w place name b.may (within rules w place b) there;
       no_ballot = acting_node_has_no_ballot (w.nodes name) (b.laws.blanks.base.each name (acting_name_is_small rules w name b.laws a)).balloted a;
     }
-
-listed : (rules : Rules) (w : World) (place : ℕ) → Begun rules w place → has (members (w.nodes (current w place))) (current w place) ≡ true
-listed rules w place b =
-    let q = current w place in
-    let a = (sequencer_acts_by_own_view (w.nodes q) b.may.leads).0 in
-    subst (λ i. has (members (w.nodes q)) i ≡ true) (b.laws.blanks.base.named.who q) ((b.laws.each q (acting_name_is_small rules w q b.laws a)).leads b.may.leads)
 
 leads_first : (rules : Rules) (w : World) (place : ℕ) → Begun rules w place → (let q = current w place in LeadsCalmly (repair_of_place w q) (w.nodes q))
 leads_first rules w place b =

@@ -5,14 +5,15 @@ use Rattle.am_repair.proofs.RepairWords.{slice_get, refl, sym, ap, ◌∙◌, ar
 use Rattle.am_repair.proofs.RepairWords.{View, has, log_entry_at, log_image_at, blank, image_after_entries, after, fits, members_of_image, entry_fits_at_its_number, IsGoodList, is_member_at_end, stamp_of_list, key_of_stamp}
 use Rattle.am_repair.proofs.RepairWords.{fold_entries_append, beginning_of_good_is_good, beginning_is_no_longer, taken_front_begins_list, length_of_taken_list, take_length_of_beginning, shorter_beginning_begins_longer, begins_push_next_entry, view_key_grows_along_list}
 use Rattle.am_repair.proofs.RepairWords.{view_below_pushed_view, slice_get_of_append_back, Node, top, image_of_node, view, members, World, split_on_bool, current, run, slice_get_within, NodeTrimFronts}
-use Rattle.am_repair.proofs.RepairWords.{run_trims_only_taken, false, false_from_ne_true, is_member, is_stopped, Rules, MayFound, Event, MayRepair, is_past, plain_entry_keeps_image_view}
+use Rattle.am_repair.proofs.RepairWords.{run_trims_only_taken, false, false_from_ne_true, is_member, is_stopped, Rules, MayFound, Event, is_past, plain_entry_keeps_image_view}
 use Rattle.am_repair.proofs.RepairWords.{IsBeginning, Agrees, HasLeft, OneListAgrees}
+use Rattle.am_repair.specs.Claim.{IsOut}
 use Rattle.am_repair.specs.Standing.{IsOneList}
 use Rattle.am_base.specs.Whole as whole
 use Rattle.am_group_defs.specs.Lawful as lists
 use Rattle.am_repair.proofs.Nodes.{acting_member_promised_its_view, sequencer_acts_by_own_view}
 use Rattle.am_repair.proofs.Known.ReportedRuns.{known_is_taken}
-use Rattle.am_repair.proofs.Known.Beginning.{acting_name_is_small, name_out_is_no_member, member_of_repair_runs}
+use Rattle.am_repair.proofs.Known.Beginning.{HoldsViewAndAccepted, node_holds_view_and_accepted, acting_name_is_small, name_out_is_no_member, member_of_repair_runs}
 use Rattle.am_repair.proofs.Going.{member_status_has_not_departed}
 use Rattle.am_repair.proofs.RepairLists.{entry_at_is_within_log}
 
@@ -79,7 +80,7 @@ goes_no_further w q m own h =
     omega arith
 
 -- each entry fits
-fits_there : (w : World) (q : Node) (number : ℕ) (e : Entry) → IsGoodList (lists.whole w q) → IsBeginning w q q → log_entry_at q.core.log number ≡ Some e
+pub fits_there : (w : World) (q : Node) (number : ℕ) (e : Entry) → IsGoodList (lists.whole w q) → IsBeginning w q q → log_entry_at q.core.log number ≡ Some e
     → fits (log_image_at q.core.log (number - 1)) e ≡ true
 fits_there w q number e good own there =
     let within = (entry_at_is_within_log q.core.log number e there).0 in
@@ -119,38 +120,41 @@ view_in image n (e ∷ es) = either (view_in (after image n e) (n + 1) es)
     (record { index = suc h.index; last = h.last; is = h.is; number = omega arith; there = h.there }))
     (λ h. view_at image n e es h)
 
--- a list with the same view as the sequencer's has its last View
-no_less : (w : World) (q m : Node) → IsGoodList (lists.whole w q) → IsBeginning w q q → IsBeginning w q m → view m ≡ view q → top m < (image_of_node q).view_number → ⊥
+-- where a part of the sequencer's list tells its view, that has its last View
+short_part_has_no_last_view : (w : World) (q : Node) (k : ℕ) → IsGoodList (lists.whole w q) → IsBeginning w q q → q.core.log.start ≤ k → k ≤ top q
+    → (log_image_at q.core.log k).view ≡ view q → k < (image_of_node q).view_number → ⊥
 unfolding stamp_of_list Unviewed
-no_less w q m good own h same short = either (view_in blank 1 (lists.whole w q))
+short_part_has_no_last_view w q k good own low within same short = either (view_in blank 1 (lists.whole w q))
     (λ x. let list = lists.whole w q in
     let tells = whole_told w q q own in
     let number = ap (λ (i : Image). i.view_number) tells in
-    let long = whole_long w m h.within in
-    let within = slice_get_within list x.index (View x.last) x.there in
+    let all = whole_long w q own.within in
+    let long = length_of_taken_list k list (omega arith) in
+    let in_ = slice_get_within list x.index (View x.last) x.there in
     let before = length_of_taken_list x.index list (omega arith) in
     let there : slice_get list (length (take x.index list)) ≡ Some (View x.last) = ap (slice_get list) before ∙ x.there in
     let good_view = beginning_of_good_is_good (begins_push_next_entry (View x.last) (taken_front_begins_list x.index list) there) good in
     let below = view_below_pushed_view (take x.index list) x.last good_view in
-    let up = view_key_grows_along_list (beginning_of_good_is_good (taken_front_begins_list x.index list) good) (shorter_beginning_begins_longer h.begins (taken_front_begins_list x.index list) (omega arith)) in
-    let mine : whole.stamp_of_list (lists.whole w m) ≡ x.last.stamp =
-    ap (λ (i : Image). i.view) (whole_told w q m h) ∙ same ∙ ap (λ (i : Image). i.view) (sym tells) ∙ sym x.is in
+    let up = view_key_grows_along_list (beginning_of_good_is_good (taken_front_begins_list x.index list) good)
+    (shorter_beginning_begins_longer (taken_front_begins_list k list) (taken_front_begins_list x.index list) (omega arith)) in
+    let mine : whole.stamp_of_list (take k list) ≡ x.last.stamp =
+    ap (λ (i : Image). i.view) (whole_part w q q k own low) ∙ same ∙ ap (λ (i : Image). i.view) (sym tells) ∙ sym x.is in
     let keys = ap key_of_stamp mine in
     let z : ⊥ = omega arith in z)
     (λ x. let number = ap (λ (i : Image). i.view_number) (whole_told w q q own) in
     let z : ⊥ = omega arith in z)
 
-has_last_view : (w : World) (q m : Node) → IsGoodList (lists.whole w q) → IsBeginning w q q → IsBeginning w q m → view m ≡ view q
-    → (image_of_node q).view_number ≤ top m
-has_last_view w q m good own h same = elim (cases_lt (top m) (image_of_node q).view_number) [
-  | inl short ↦ absurd (no_less w q m good own h same short)
+pub part_in_view_has_last_view : (w : World) (q : Node) (k : ℕ) → IsGoodList (lists.whole w q) → IsBeginning w q q → q.core.log.start ≤ k → k ≤ top q
+    → (log_image_at q.core.log k).view ≡ view q → (image_of_node q).view_number ≤ k
+part_in_view_has_last_view w q k good own low within same = elim (cases_lt k (image_of_node q).view_number) [
+  | inl short ↦ absurd (short_part_has_no_last_view w q k good own low within same short)
   | inr reached ↦ reached
 ]
 
 -- ---- all of it
 
 -- a member by the whole list is one
-listed_is : (w : World) (q : Node) (name : ℕ) → IsBeginning w q q → is_member_at_end (lists.whole w q) name ≡ true → has (members q) name ≡ true
+pub listed_is : (w : World) (q : Node) (name : ℕ) → IsBeginning w q q → is_member_at_end (lists.whole w q) name ≡ true → has (members q) name ≡ true
 unfolding is_member_at_end
 listed_is w q name own there = ap (λ (i : Image). has (members_of_image i) name) (sym (whole_told w q q own)) ∙ there
 
@@ -159,7 +163,8 @@ agrees : (w : World) (q m : Node) → IsGoodList (lists.whole w q) → IsBeginni
 agrees w q m good own h same fq fm trimmed_ known =
     let low : q.core.log.start ≤ top m = omega arith in
     record {
-      reached = has_last_view w q m good own h same;
+      reached = part_in_view_has_last_view w q (top m) good own low (goes_no_further w q m own h)
+          (ap (λ (i : Image). i.view) (sym (tells_same w q m own h low)) ∙ same);
       low = low;
       within = goes_no_further w q m own h;
       told_ = tells_same w q m own h low;
@@ -168,16 +173,16 @@ agrees w q m good own h same fq fm trimmed_ known =
     }
 
 -- a leaver has left it
-has_left : (rules : Rules) (events : List Event) (place name : ℕ) → MayFound rules → MayRepair (run rules events) place
-    → (let w = run rules events in let q = w.nodes (current w place) in q.core.acc ≤ top q → IsOneList w q → IsBeginning w q q
-    → has (members q) q.core.who ≡ true → is_member (w.nodes name).status ≡ true → is_stopped w name ≡ false → (w.nodes name).leaving ≡ true
-    → HasLeft q (w.nodes name))
-has_left rules events place name may repair low one own itself member goes leaves =
+pub has_left : (rules : Rules) (events : List Event) (place name : ℕ) → MayFound rules
+    → ((run rules events).nodes name).leaving ≡ true → IsOut (run rules events) ((run rules events).nodes (current (run rules events) place)) name
+    → (let w = run rules events in let q = w.nodes (current w place) in HoldsViewAndAccepted q → IsOneList w q → IsBeginning w q q
+    → has (members q) q.core.who ≡ true → is_member (w.nodes name).status ≡ true → is_stopped w name ≡ false → HasLeft q (w.nodes name))
+has_left rules events place name may leaves out low one own itself member goes =
     let w = run rules events in
     let q = w.nodes (current w place) in
     let m = w.nodes name in
     let who = (run_trims_only_taken rules events may).blanks.base.named.who name in
-    let none = name_out_is_no_member w q name low (repair.nobody_leaves name leaves) (member_status_has_not_departed m member) in
+    let none = name_out_is_no_member w q name low out (member_status_has_not_departed m member) in
     let no_member = false_from_ne_true (is_member_at_end (lists.whole w q) name) (λ t. (let in_ = listed_is w q name own t in cc)) in
     record {
       past = subst (λ i. is_past (image_of_node q) i ≡ true) (sym who)
@@ -195,8 +200,9 @@ one_list_agrees rules events place may low repair one settled_ =
     let acts_ = (sequencer_acts_by_own_view q repair.leads).0 in
     let few = acting_name_is_small rules w by laws acts_ in
     let leads = (laws.each by few).fronts in
+    let holds = node_holds_view_and_accepted rules events by in
     let itself = (laws.each by few).leads repair.leads in
-    let goes : (name : ℕ) → has (members q) name ≡ true → is_stopped w name ≡ false = λ name there. member_of_repair_runs w place name repair leads.accepted there in
+    let goes : (name : ℕ) → has (members q) name ≡ true → is_stopped w name ≡ false = λ name there. member_of_repair_runs w place name repair holds there in
     let here = subst (λ i. has (members q) i ≡ true) (laws.blanks.base.named.who by) itself in
     let own = one.each by (acting_member_promised_its_view q acts_).0 (goes by here) in
     record {
@@ -209,7 +215,7 @@ one_list_agrees rules events place may low repair one settled_ =
           agrees w q m one.good own (one.each name (acting_member_promised_its_view m act.0).0 (goes name there)) act.1 leads (laws.each name low_).fronts
           (settled_.trims name there) (subst (λ i. (q.reports i).taken ≤ max q.core.base m.core.taken) (sym who) known));
       alone = λ name member runs stays. listed_is w q name own (one.listed name member runs stays);
-      left = λ name member runs leaves. has_left rules events place name may repair leads.accepted one own itself member runs leaves;
+      left = λ name member runs leaves. has_left rules events place name may leaves (repair.nobody_leaves name leaves) holds one own itself member runs;
       fit = λ number e there. fits_there w q number e one.good own there;
       counted = settled_.counted;
     }

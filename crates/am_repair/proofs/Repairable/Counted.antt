@@ -4,7 +4,7 @@ use Rattle.am_repair.proofs.Repairable.RepairedWords.{◌≡◌, ◌≢◌, ℕ,
 use Rattle.am_repair.proofs.Repairable.RepairedWords.{◌∙◌, subst, arith, nat_tests, All-nil, All-cons, Entry, Leave, View, Image, Rules, MayFound, IsSetOfNames}
 use Rattle.am_repair.proofs.Repairable.RepairedWords.{has, place_of_name, name_of_place_and_life, names_from, names_of, image_after_entries, blank, members_of_image, counting_names_at, Event, view_number_only_grows, IsBeginningOf}
 use Rattle.am_repair.proofs.Repairable.RepairedWords.{IsGoodList, is_member_at_end, stamp_of_list, begins_through_both, beginning_is_no_longer, length_of_pushed_list, beginning_of_good_is_good, image_after_pushed_entry, member_stays_by_push, membership_ends_between, Group}
-use Rattle.am_repair.proofs.Repairable.RepairedWords.{Leads, counting_names_in, list_with_chosen_view, chain_of, current_of, GroupKeeps, Node, top, told_at, members, lowest_name_or_zero, MayRepair}
+use Rattle.am_repair.proofs.Repairable.RepairedWords.{Leads, counting_names_in, list_with_chosen_view, chain_of, current_of, GroupKeeps, Node, top, told_at, members, lowest_name_or_zero, is_sequencer, is_stopped}
 use Rattle.am_repair.proofs.Repairable.RepairedWords.{lawful_front, has_departed, take, World, current, run, fold_append, split_on_bool, names_hold_in_runs, number_bounds_hold_in_runs, trimmed_was_taken_in_runs}
 use Rattle.am_repair.proofs.Repairable.RepairedWords.{image_after_view_has_it, NameStands, NamesNamed, Following, image_of_whole_list, length_of_whole_list, counted_names_of_named_list, set_name_is_below_256, group_run_is_kept, counted_name_was_member_near}
 use Rattle.am_repair.proofs.Repairable.RepairedWords.{counted_at_of_whole_list, steps_are_group_moves, group_follows_unbroken_run, eqb-true}
@@ -12,7 +12,7 @@ use Rattle.am_base.specs.Whole.{image_of_list}
 use Rattle.am_repair.proofs.Repairable.Left.{AllLeaversAskedAndGone, accepted, last, leave_stands_once_in_list, leavers_of_runs_asked}
 use Rattle.am_repair.proofs.Repairable.OneList.{lawful_events, current_name_is_below_256, sequencer_leads_in_group}
 use Rattle.am_repair.proofs.Repairable.Upheld.{AcceptedIsUpheld, accepted_is_upheld_at_start, accepted_is_upheld_by_rules}
-use Rattle.am_repair.proofs.Repairable.OneList.{sequencer_of_repair_runs}
+use Rattle.am_repair.specs.Claim.{IsOut}
 use Rattle.am_base.proofs.Prefixes.{take_length_of_beginning}
 
 -- ---- who counts for a number
@@ -48,7 +48,7 @@ leaves_last list before name e good within view_ is none = absurd (let z = membe
 -- who counts for a number that the sequencer hasn't accepted, after the last View, is a member at the list's end
 stays_member : (s : Group) (q : ℕ) (list : List Entry) (n name : ℕ) → GroupKeeps s → AllLeaversAskedAndGone s → Leads q (s.node q) → list ≡ chain_of s.views
     → length s.group < n → n ≤ length list → (image_of_list list).view_number ≤ n
-    → ((at : ℕ) → n ≤ at + 1 → at ≤ length list → is_member_at_end (take at list) name ≡ true → (s.node name).leaving ≡ true → (s.node name).departed ≡ true)
+    → ((at : ℕ) → n ≤ at + 1 → (image_of_list list).view_number ≤ at → at ≤ length list → is_member_at_end (take at list) name ≡ true → (s.node name).leaving ≡ true → (s.node name).departed ≡ true)
     → has (counting_names_in list n) name ≡ true → is_member_at_end list name ≡ true
 stays_member s q list n name k left leads is low high view_ leaves h = split_on_bool (is_member_at_end list name)
     (λ t. t)
@@ -62,7 +62,7 @@ stays_member s q list n name k left leads is low high view_ leaves h = split_on_
     let asked = left.asked e.before name (subst (IsBeginningOf (e.before ++ Leave name ∷ [])) is there) in
     let size = beginning_is_no_longer at.begins_ in
     let part = subst (λ l. is_member_at_end l name ≡ true) (sym (take_length_of_beginning at.begins_)) at.member in
-    elim (left.gone name (leaves (length at.upto) (omega arith) (omega arith) part asked)) [
+    elim (left.gone name (leaves (length at.upto) (omega arith) at.from (omega arith) part asked)) [
       | accepted earlier begins_ ↦
           let size = beginning_is_no_longer begins_ in
           let long = length_of_pushed_list earlier (Leave name) in
@@ -96,7 +96,8 @@ all_names P set is h = all_from P 0 set (λ k low some.
 -- ---- in every run
 
 module _ (rules : Rules) (events : List Event) (place : ℕ) (may : MayFound rules) (low : place < 16) (lawful : lawful_front rules events ≡ events)
-    (repair : MayRepair (run rules events) place) where
+    (seq : is_sequencer ((run rules events).nodes (current (run rules events) place)) ≡ true) (goes : is_stopped (run rules events) (current (run rules events) place) ≡ false)
+    (out : (name : ℕ) → ((run rules events).nodes name).leaving ≡ true → IsOut (run rules events) ((run rules events).nodes (current (run rules events) place)) name) where
   abbrev w : World
   w = run rules events
 
@@ -121,7 +122,7 @@ module _ (rules : Rules) (events : List Event) (place : ℕ) (may : MayFound rul
     stands = old.stands.each q few
 
     leads : Leads q (s.node q)
-    leads = sequencer_leads_in_group rules w s place old repair few (sequencer_of_repair_runs rules events place may low repair) ((names_hold_in_runs rules events may).who q)
+    leads = sequencer_leads_in_group rules w s place old seq few goes ((names_hold_in_runs rules events may).who q)
 
     is : list ≡ chain_of s.views
     is = ((kept.each q).leads leads).chain
@@ -148,15 +149,15 @@ module _ (rules : Rules) (events : List Event) (place : ℕ) (may : MayFound rul
         omega arith
 
     -- who is leaving and was a member since what is accepted has departed
-    gone : (name at : ℕ) → m.core.acc ≤ at → at ≤ top m → is_member_at_end (take at list) name ≡ true → (w.nodes name).leaving ≡ true
+    gone : (name at : ℕ) → m.core.acc ≤ at → (told_at m).view_number ≤ at → at ≤ top m → is_member_at_end (take at list) name ≡ true → (w.nodes name).leaving ≡ true
         → has_departed (w.nodes name).status ≡ true
     unfolding is_member_at_end
-    gone name at front within_ member t = split_on_bool (has_departed (w.nodes name).status)
+    gone name at front viewed within_ member t = split_on_bool (has_departed (w.nodes name).status)
         (λ d. d)
         (λ d. absurd (
         let num = (number_bounds_hold_in_runs rules events).each q in
         let b = trimmed_was_taken_in_runs rules events q may few in
-        let none = repair.nobody_leaves name t d at front within_ in
+        let none = out name t d at front viewed within_ in
         let same : log_image_at m.core.log at ≡ image_of_list (take at list) = image_at_of_whole_list w q at m (s.node q) stands (omega arith) in
         cc))
 
@@ -167,8 +168,8 @@ module _ (rules : Rules) (events : List Event) (place : ℕ) (may : MayFound rul
         let num = numbered in
         let counts : has (counting_names_in list number) name ≡ true = ap (λ set. has set name) (sym (counted_at_of_whole_list w q number m (s.node q) stands start_low)) ∙ h in
         let b = old.stands.each name small in
-        let leaves : (at : ℕ) → number ≤ at + 1 → at ≤ length list → is_member_at_end (take at list) name ≡ true → (s.node name).leaving ≡ true
-        → (s.node name).departed ≡ true = λ at near within_ member t. b.departed ∙ gone name at (omega arith) (omega arith) member (sym b.leaving ∙ t) in
+        let leaves : (at : ℕ) → number ≤ at + 1 → (image_of_list list).view_number ≤ at → at ≤ length list → is_member_at_end (take at list) name ≡ true → (s.node name).leaving ≡ true
+        → (s.node name).departed ≡ true = λ at near viewed within_ member t. b.departed ∙ gone name at (omega arith) (omega arith) (omega arith) member (sym b.leaving ∙ t) in
         let there : is_member_at_end list name ≡ true = stays_member s q list number name kept left leads is behind (omega arith) (omega arith) leaves counts in
         ap (λ (g : Image). has (members_of_image g) name) (sym (image_of_whole_list w q m (s.node q) stands)) ∙ there
 

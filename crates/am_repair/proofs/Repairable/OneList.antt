@@ -1,7 +1,7 @@
 -- Where a run may be repaired, its sequencer has the whole chain, and each member's list begins it.
 use Rattle.am_repair.proofs.Repairable.RepairedWords.{member_has_not_departed, stamp_eq_gives_equality, ◌≡◌, ℕ, ◌<◌, ◌≤◌, ◌==◌, nat_lt, true, false, List, take, None, sym, ap, ◌∙◌, subst}
 use Rattle.am_repair.proofs.Repairable.RepairedWords.{arith, nat_tests, Rules, MayFound, place_of_name, Event, IsBeginningOf, IsGoodList, is_member_at_end, stamp_of_list, taken_front_begins_list}
-use Rattle.am_repair.proofs.Repairable.RepairedWords.{begins_through_both, Group, IsUp, Leads, chain_of, GroupKeeps, Node, acts_in_its_view, view, is_member, lowest_name_or_zero, whole, broken_at}
+use Rattle.am_repair.proofs.Repairable.RepairedWords.{begins_through_both, Group, IsUp, Leads, chain_of, GroupKeeps, Node, acts_in_its_view, view, is_member, is_sequencer, lowest_name_or_zero, whole, broken_at}
 use Rattle.am_repair.proofs.Repairable.RepairedWords.{MayRepair, World, current, is_stopped, run, split_on_bool, both_of_and, front_is_lawful, member_status_has_log, names_hold_in_runs, Following}
 use Rattle.am_repair.proofs.Repairable.RepairedWords.{image_of_whole_list, group_run_is_kept, steps_are_group_moves, PropertyIsKeptByRuns, group_follows_unbroken_run, IsOneList, RepairableIsOneList, lawful_front, inl, either, has}
 use Rattle.am_repair.proofs.Repairable.RepairedWords.{members, run_trims_only_taken, member_row_gives_member, member_has_member_row, was_member_in_longer_list, eqb-true}
@@ -10,7 +10,7 @@ use Rattle.am_refinement.proofs.Sending.{teller_of_own_promise_leads}
 use Rattle.am_refinement.proofs.WholeSteps.Owns.{run_keeps_own_decisions}
 use Rattle.am_repair.specs.Calm.{is_past}
 use Rattle.am_repair.proofs.RepairLists.{past_row_is_past}
-use Rattle.am_repair.proofs.Known.Beginning.{member_of_repair_runs}
+use Rattle.am_repair.proofs.Known.Beginning.{node_holds_view_and_accepted, member_of_repair_runs}
 use Rattle.am_base.specs.Whole.{image_of_list}
 use Rattle.am_repair.proofs.Repairable.One.{one_sequencer_runs}
 
@@ -49,17 +49,15 @@ lists_itself rules events place may low repair =
 pub listed_member_runs : (rules : Rules) (events : List Event) (place name : ℕ) → MayFound rules → place < 16 → MayRepair (run rules events) place
     → (let w = run rules events in has (members (w.nodes (current w place))) name ≡ true → is_stopped w name ≡ false)
 listed_member_runs rules events place name may low repair there =
-    let few = current_name_is_below_256 rules events place may low in
-    let fronts = ((run_trims_only_taken rules events may).each (current (run rules events) place) few).fronts in
-    member_of_repair_runs (run rules events) place name repair fronts.accepted there
+    member_of_repair_runs (run rules events) place name repair (node_holds_view_and_accepted rules events (current (run rules events) place)) there
 
 pub sequencer_of_repair_runs : (rules : Rules) (events : List Event) (place : ℕ) → MayFound rules → place < 16 → MayRepair (run rules events) place
     → (let w = run rules events in is_stopped w (current w place) ≡ false)
 sequencer_of_repair_runs rules events place may low repair =
     listed_member_runs rules events place (current (run rules events) place) may low repair (lists_itself rules events place may low repair)
 
-module _ (rules : Rules) (w : World) (s : Group) (place : ℕ) (old : Following rules w s) (may : MayRepair w place) (few : current w place < 256)
-    (goes : is_stopped w (current w place) ≡ false) where
+module _ (rules : Rules) (w : World) (s : Group) (place : ℕ) (old : Following rules w s) (seq : is_sequencer (w.nodes (current w place)) ≡ true)
+    (few : current w place < 256) (goes : is_stopped w (current w place) ≡ false) where
   abbrev q : ℕ
   q = current w place
 
@@ -75,7 +73,7 @@ module _ (rules : Rules) (w : World) (s : Group) (place : ℕ) (old : Following 
 
   sequencer : (is_member (w.nodes q).status ≡ true) × ((w.nodes q).core.promise ≡ view (w.nodes q)) × ((view (w.nodes q)).by ≡ (w.nodes q).core.who)
   sequencer =
-      let a = both_of_and (acts_in_its_view (w.nodes q)) ((view (w.nodes q)).by == (w.nodes q).core.who) may.leads in
+      let a = both_of_and (acts_in_its_view (w.nodes q)) ((view (w.nodes q)).by == (w.nodes q).core.who) seq in
       let b = both_of_and (is_member (w.nodes q).status) _ a.0 in
       (b.0, stamp_eq_gives_equality (w.nodes q).core.promise (view (w.nodes q)) b.1, eqb-true (view (w.nodes q)).by (w.nodes q).core.who a.1)
 
@@ -125,7 +123,7 @@ module _ (rules : Rules) (w : World) (s : Group) (place : ℕ) (old : Following 
     tells = λ name member runs t mine.
         (let low = small name member in
         let leads = teller_of_own_promise_leads (w.nodes name) member t (owns name low) mine in
-        one_sequencer_runs rules w s name q old kept low few (who name) (who q) leads may.leads runs goes ∙ sym (who q));
+        one_sequencer_runs rules w s name q old kept low few (who name) (who q) leads seq runs goes ∙ sym (who q));
   }
 
 -- ---- in every run
@@ -134,8 +132,14 @@ module _ (rules : Rules) (w : World) (s : Group) (place : ℕ) (old : Following 
 nothing_kept : (rules : Rules) → PropertyIsKeptByRuns (λ w s. Unit {0}) rules
 nothing_kept rules = assumption
 
+-- where a sequencer runs
+pub running_sequencer_has_one_list : (rules : Rules) (events : List Event) (place : ℕ) → MayFound rules → place < 16 → lawful_front rules events ≡ events
+    → (let w = run rules events in let q = current w place in is_sequencer (w.nodes q) ≡ true → is_stopped w q ≡ false → IsOneList w (w.nodes q))
+running_sequencer_has_one_list rules events place may low lawful leads goes =
+    let h = group_follows_unbroken_run (λ w s. Unit {0}) rules (nothing_kept rules) steps_are_group_moves may (λ t f. tt) events (lawful_events rules events lawful) in
+    chain_is_one_list rules (run rules events) h.to place h.follows leads (current_name_is_below_256 rules events place may low) goes
+    (names_hold_in_runs rules events may).who (λ name member. member_name_is_below_256 rules events name may member) (run_keeps_own_decisions rules events may).each
+
 pub repairable_is_one_list : RepairableIsOneList
 repairable_is_one_list rules events place may low lawful repair =
-    let h = group_follows_unbroken_run (λ w s. Unit {0}) rules (nothing_kept rules) steps_are_group_moves may (λ t f. tt) events (lawful_events rules events lawful) in
-    chain_is_one_list rules (run rules events) h.to place h.follows repair (current_name_is_below_256 rules events place may low) (sequencer_of_repair_runs rules events place may low repair)
-    (names_hold_in_runs rules events may).who (λ name member. member_name_is_below_256 rules events name may member) (run_keeps_own_decisions rules events may).each
+    running_sequencer_has_one_list rules events place may low lawful repair.leads (sequencer_of_repair_runs rules events place may low repair)

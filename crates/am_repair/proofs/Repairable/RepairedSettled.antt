@@ -11,7 +11,8 @@ use Rattle.am_repair.proofs.Repairable.Trims.{GroupTrimsTaken, base_le_taken_of_
 use Rattle.am_repair.proofs.Repairable.Kept.{sequencer_trims_taken_at_start, sequencer_trims_taken_by_runs}
 
 pub repairable_runs_counting_members : RepairableCounts
-repairable_runs_counting_members rules events place may low lawful repair = counted_names_are_members rules events place may low lawful repair
+repairable_runs_counting_members rules events place may low lawful repair =
+    counted_names_are_members rules events place may low lawful repair.leads (sequencer_of_repair_runs rules events place may low repair) repair.nobody_leaves
 
 pub repairable_runs_trimming_taken : RepairableTrims
 repairable_runs_trimming_taken rules events place may low lawful repair name member =
@@ -36,7 +37,7 @@ pub repairable_lists_agree : (rules : Rules) (events : List Event) (place : ℕ)
     → MayRepair (run rules events) place → Agree (run rules events) ((run rules events).nodes (current (run rules events) place))
 repairable_lists_agree rules events place may low lawful repair =
     one_list_agrees rules events place may low repair (repairable_is_one_list rules events place may low lawful repair)
-    (record { trims = repairable_runs_trimming_taken rules events place may low lawful repair; counted = counted_names_are_members rules events place may low lawful repair })
+    (record { trims = repairable_runs_trimming_taken rules events place may low lawful repair; counted = repairable_runs_counting_members rules events place may low lawful repair })
 
 pub lossless_schedules_do_repair : Repairs
 lossless_schedules_do_repair rules events place may low lawful repair =
