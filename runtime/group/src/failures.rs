@@ -180,6 +180,23 @@ pub struct Blocked {
     pub refused_by: Vec<u8>,
 }
 
+/// A list that has ended, and that a member serves still, for members that haven't come to its end. As long as there is one the next list isn't
+/// ended.
+#[derive(Clone, Debug, PartialEq, Eq)]
+#[non_exhaustive]
+pub struct EndedList {
+    /// How many lists of the group came before it.
+    pub generation: u32,
+    /// The founders of the next list that haven't come to it, by their names there.
+    pub awaited: Vec<Name>,
+    /// For how long this member has been frozen in it, if it is.
+    pub frozen_for: Option<Duration>,
+    /// Its members that any voter has refused in it, as it said, and that haven't stopped.
+    pub refused_members: Vec<Name>,
+    /// Who is blocked in it.
+    pub blocked: Vec<Blocked>,
+}
+
 /// How a member stands with who has stopped.
 #[derive(Clone, Debug, PartialEq, Eq)]
 #[non_exhaustive]
@@ -205,22 +222,50 @@ pub struct FailuresInfo {
     pub why_no_vote: Option<&'static str>,
     /// Who is blocked.
     pub blocked: Vec<Blocked>,
+    /// The lists that have ended, and that this member serves still, the earliest one first.
+    pub ended_lists: Vec<EndedList>,
+}
+
+fn names(set: failures::NameSet) -> Vec<Name> {
+    set.iter().map(|name| Name::of_byte(name.byte())).collect()
+}
+
+fn since(earlier: u64, later: u64) -> Duration {
+    Duration::from_micros(later.saturating_sub(earlier))
+}
+
+/// Who is blocked, as a core says it.
+fn blocked(info: &failures::Info) -> Vec<Blocked> {
+    let blocked = info.blocked.iter().map(|blocked| Blocked {
+        name: Name::of_byte(blocked.name.byte()),
+        refused_by: (0..16)
+            .filter(|place| blocked.refused_by >> place & 1 == 1)
+            .collect(),
+    });
+    blocked.collect()
 }
 
 impl FailuresInfo {
+    /// With the lists that have ended and are served still.
+    pub(crate) fn with_ended(
+        mut self,
+        lists: impl Iterator<Item = muoswyld_guarded::EndedList>,
+        now: u64,
+    ) -> FailuresInfo {
+        let ended = lists.map(|list| EndedList {
+            generation: list.generation,
+            awaited: list.awaited.iter().collect(),
+            frozen_for: list.failures.frozen_since.map(|at| since(at.0, now)),
+            refused_members: names(list.failures.refused_members),
+            blocked: blocked(&list.failures),
+        });
+        self.ended_lists = ended.collect();
+        self
+    }
+
     /// What a core says at a time of its clock.
     pub(crate) fn of(policy: failures::Policy, info: &failures::Info, now: u64) -> FailuresInfo {
-        let names = |set: failures::NameSet| -> Vec<Name> {
-            set.iter().map(|name| Name::of_byte(name.byte())).collect()
-        };
-        let since = |earlier: u64, later: u64| Duration::from_micros(later.saturating_sub(earlier));
         let has_voters = matches!(policy, failures::Policy::Echo | failures::Policy::Lease(_));
-        let blocked = info.blocked.iter().map(|blocked| Blocked {
-            name: Name::of_byte(blocked.name.byte()),
-            refused_by: (0..16)
-                .filter(|place| blocked.refused_by >> place & 1 == 1)
-                .collect(),
-        });
         FailuresInfo {
             policy: match policy {
                 failures::Policy::Told => "told",
@@ -239,7 +284,8 @@ impl FailuresInfo {
             stopped: names(info.stopped),
             votes: has_voters && info.no_voter.is_none(),
             why_no_vote: info.no_voter.filter(|_| has_voters).map(why_no_voter),
-            blocked: blocked.collect(),
+            blocked: blocked(info),
+            ended_lists: Vec::new(),
         }
     }
 }
@@ -326,5 +372,16 @@ mod tests {
         assert_eq!(shown.may_act_for, Some(Duration::from_millis(200)));
         assert_eq!(shown.frozen_for, Some(Duration::from_millis(100)));
         assert!(!shown.votes && shown.why_no_vote.is_some());
+        let ended = muoswyld_guarded::EndedList {
+            generation: 3,
+            awaited: "1,2".parse().unwrap(),
+            failures: info,
+        };
+        let shown = shown.with_ended([ended].into_iter(), 5_300_000);
+        let [list] = shown.ended_lists.as_slice() else {
+            panic!("{shown:?}");
+        };
+        assert_eq!((list.generation, list.awaited.len()), (3, 2));
+        assert_eq!(list.frozen_for, Some(Duration::from_millis(400)));
     }
 }

@@ -51,7 +51,7 @@ pub use config::Config;
 pub use error::{
     CreateError, End, LeaveError, ReceiveError, ResetError, SendError, SucceedError, ToldError,
 };
-pub use failures::{Blocked, FailuresInfo, Policy};
+pub use failures::{Blocked, EndedList, FailuresInfo, Policy};
 pub use group::Group;
 pub use later::LaterList;
 pub use muoswyld::names::{BadName, Name, Names, Stamp};

@@ -277,6 +277,10 @@ impl State {
 
     /// Removes what an earlier process left that was killed amid a write: files that weren't whole, and voters' files of lists in which no life
     /// began. A process begins in this list.
+    ///
+    /// No safety rests on this. A file that isn't whole is read by nobody. Where no life began nothing went out, so such a voter's file has
+    /// refused nobody: a place that voted with it would say nothing false, and one that comes there by an end writes the same file anew. What
+    /// safety rests on is that the voter's file of this very list stays.
     fn sweep(&self, generation: u32) -> Result<(), StateError> {
         for name in names_in(&self.folder)? {
             let whole = name.strip_suffix(NEW).unwrap_or(&name);

@@ -11,7 +11,8 @@
 use crate::deed::{Closing, Deed, Ending, Plant};
 use crate::guarded::Guarded;
 use crate::lane::Lane;
-use muoswyld_failures::Message;
+use muoswyld_failures::{Info, Message};
+use muoswyld_member::Names;
 
 /// Of how many lists that aren't served any more the ids are kept.
 const MOST_CLOSED: usize = 64;
@@ -29,7 +30,28 @@ pub(crate) struct Left {
     is_over: bool,
 }
 
+/// A list that has ended, and that is served still, for those that are behind.
+#[derive(Clone, Debug)]
+pub struct EndedList {
+    /// How many lists came before it.
+    pub generation: u32,
+    /// The founders of the next list that haven't come to it, by their names there.
+    pub awaited: Names,
+    /// Who has stopped in it, whom any voter has refused, and since when this member is frozen in it.
+    pub failures: Info,
+}
+
 impl Guarded {
+    /// The lists that have ended and are served still.
+    pub fn ended_lists(&self) -> impl Iterator<Item = EndedList> + '_ {
+        let ended = &self.lanes[..self.latest()];
+        ended.iter().map(|lane| EndedList {
+            generation: lane.generation,
+            awaited: self.lists.awaited(lane.generation),
+            failures: lane.failures.info(),
+        })
+    }
+
     /// Ended lists that nobody wants anything of any more, or in which this place can't act any more, aren't served from now on.
     pub(crate) fn close_over(&mut self) {
         for left in self.left.iter_mut().filter(|left| !left.is_over) {

@@ -17,6 +17,7 @@ mod ids;
 mod lane;
 mod waiting;
 
+pub use closing::EndedList;
 pub use deed::{Closing, Deed, Ending, Plant};
 pub use guarded::Guarded;
 pub use ids::next_id;

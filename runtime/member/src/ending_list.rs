@@ -163,7 +163,7 @@ impl Member {
     }
 
     /// The founders that weren't heard in this list, and are members of it and haven't stopped.
-    fn unheard(&self) -> Names {
+    pub(crate) fn unheard(&self) -> Names {
         let others = self.settings.founding.founders.without(self.me()).iter();
         let is_there = |name: &Name| !self.stopped.has(*name) && self.standing.members.has(*name);
         others

@@ -142,6 +142,12 @@ impl Generations {
         self.old(generation).map(|old| old.successor.members)
     }
 
+    /// The founders of the list after an ended one that weren't heard in it, and haven't stopped there: the ended one is served for them.
+    pub fn awaited(&self, generation: u32) -> Names {
+        let next = self.member_of(generation + 1);
+        next.map_or(Names::nobody(), Member::unheard)
+    }
+
     /// The places that vote who has stopped in the latest list, each as its first life; None where the policy has no voters.
     pub fn set_voters(&mut self, voters: Option<Names>) {
         self.settings.voters = voters;

@@ -3,7 +3,9 @@
 
 use crate::exit::{Fault, CANT_CREATE, CONFIG, IO, UNAVAILABLE};
 use crate::show::object;
-use muoswyld_group::{Blocked, FailuresInfo, Group, Info, Name, Names, NextList, ReceiveError};
+use muoswyld_group::{
+    Blocked, EndedList, FailuresInfo, Group, Info, Name, Names, NextList, ReceiveError,
+};
 use serde_json::{json, Value};
 use std::io::{BufRead, BufReader, Read, Write};
 use std::os::unix::net::{UnixListener, UnixStream};
@@ -176,22 +178,42 @@ fn status(info: &Info, failures: &FailuresInfo) -> Value {
 
 /// Who is suspected, refused, given up and frozen, as JSON.
 fn failures_status(info: &FailuresInfo) -> Value {
-    let names = |names: &[Name]| -> Vec<String> { names.iter().map(Name::to_string).collect() };
-    let milliseconds = |time: Option<Duration>| time.map(|time| time.as_millis() as u64);
-    let blocked =
-        |it: &Blocked| json!({ "name": it.name.to_string(), "refused-by": it.refused_by });
     json!({
         "policy": info.policy,
-        "suspected": names(&info.suspects),
-        "refused": names(&info.refused),
-        "refused-members": names(&info.refused_members),
-        "stopped": names(&info.stopped),
+        "suspected": shown(&info.suspects),
+        "refused": shown(&info.refused),
+        "refused-members": shown(&info.refused_members),
+        "stopped": shown(&info.stopped),
         "votes": info.votes,
         "why-no-vote": info.why_no_vote,
         "frozen-for-milliseconds": milliseconds(info.frozen_for),
         "may-act-for-milliseconds": milliseconds(info.may_act_for),
         "blocked": info.blocked.iter().map(blocked).collect::<Vec<Value>>(),
+        "ended-lists": info.ended_lists.iter().map(ended_list).collect::<Vec<Value>>(),
     })
+}
+
+/// A list that has ended and is served still, as JSON.
+fn ended_list(list: &EndedList) -> Value {
+    json!({
+        "generation": list.generation,
+        "awaited": shown(&list.awaited),
+        "frozen-for-milliseconds": milliseconds(list.frozen_for),
+        "refused-members": shown(&list.refused_members),
+        "blocked": list.blocked.iter().map(blocked).collect::<Vec<Value>>(),
+    })
+}
+
+fn shown(names: &[Name]) -> Vec<String> {
+    names.iter().map(Name::to_string).collect()
+}
+
+fn milliseconds(time: Option<Duration>) -> Option<u64> {
+    time.map(|time| time.as_millis() as u64)
+}
+
+fn blocked(it: &Blocked) -> Value {
+    json!({ "name": it.name.to_string(), "refused-by": it.refused_by })
 }
 
 /// How long the end of a member waits for what is being written to callers.

@@ -217,6 +217,19 @@ fn failure_values(info: &FailuresInfo) -> Vec<Value> {
             info.blocked.len() as u64,
         ),
         (
+            "muoswyld_ended_lists",
+            "lists that have ended, and that this member serves still",
+            info.ended_lists.len() as u64,
+        ),
+        (
+            "muoswyld_awaited_members",
+            "founders that haven't come from an ended list to the next one",
+            info.ended_lists
+                .iter()
+                .map(|list| list.awaited.len() as u64)
+                .sum(),
+        ),
+        (
             "muoswyld_votes",
             "1 if this place votes who has stopped, else 0",
             u64::from(info.votes),

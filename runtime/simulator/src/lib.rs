@@ -8,6 +8,7 @@
 
 pub mod checker;
 mod clock;
+mod closings;
 pub mod draw;
 mod ends;
 mod fenced;

@@ -1,4 +1,21 @@
 //! Groups whose members find out by themselves who has stopped, and whose lists end: amid losses, pauses, splits, crashes and returns.
+//!
+//! What isn't asked of a run, and why:
+//!
+//! - A run ends where it gets void: where more have stopped in a list than its resilience. From there on two parts may go on with two lists, each
+//!   by itself. What was seen before is checked.
+//! - A list that all that run have come past doesn't make a run void, since nothing of it is wanted any more.
+//! - A group needn't come to rest where too few members are left for a reset, or too few places have their voters' files of the latest list: such a
+//!   group stands still for good. So a disk isn't lost where that would take away the majority of a list's voters.
+//! - Members mustn't stay frozen where nobody crashed. But they may if a place that votes in the latest list has no file of it, as a founder that was
+//!   given up before it came there. Then, and where somebody crashed, an operator ends whoever is frozen after 15 seconds.
+//! - Where a list is to be ended, an operator ends whoever runs and was refused: refusals aren't taken back.
+//! - Who asks to join may end as superseded though nobody's end of the list is known yet, if somebody crashed: what a process lets out amid its crash
+//!   may say that the list has ended before the end itself is out.
+//! - A member that was asked to end its list may refuse that because a voter that was named is a member no more.
+//!
+//! What is asked: whoever closes a list says why, and that is so. All founders of the next list have come to it or have stopped; or the place was
+//! given up; or no majority of the voters may echo it again. A life that ends as unserved can't be echoed again either.
 
 use muoswyld_failures::Policy;
 use muoswyld_member::Limits;

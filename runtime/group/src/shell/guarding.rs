@@ -10,7 +10,9 @@ use std::time::Duration;
 impl Shell {
     /// How it stands with who has stopped.
     pub(super) fn failures(&self) -> FailuresInfo {
-        FailuresInfo::of(self.member.policy(), &self.member.failures(), self.now().0)
+        let now = self.now().0;
+        let info = FailuresInfo::of(self.member.policy(), &self.member.failures(), now);
+        info.with_ended(self.member.ended_lists(), now)
     }
 
     /// Does what is to be done for what says who has stopped; the end, if this life was given up.
