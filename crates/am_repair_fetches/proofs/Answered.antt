@@ -13,7 +13,9 @@ use Rattle.am_repair_takes.proofs.Rounds.{repaired_by_taking_where_lists_agree}
 use Rattle.am_repair_takes.proofs.Rest.{sends_are_answered_where_lists_agree}
 use Rattle.am_step_laws.proofs.Words.{member_status_has_log}
 use Rattle.std.specs.List.{sum_by}
-use Rattle.am_repair_fetches.specs.Rest.{SendsAreAnsweredLater}
+use Rattle.am_repair.proofs.RepairWords.{Image, ◌≤◌, false, image_of_node, log_members_at, image_at_top_is_told, false_from_ne_true}
+use Rattle.am_repair_fetches.specs.Later.{MayRepairLater}
+use Rattle.am_repair_fetches.specs.Rest.{SendsAreAnsweredLater, IsDecidedAnew, DecidedViewsAreAnswered}
 use Rattle.am_repair_fetches.proofs.Later.{gathers_later, same_list_later}
 use Rattle.am_repair_fetches.proofs.Unasked.{IsQuieter, quieter_by_events}
 
@@ -58,3 +60,25 @@ sends_are_answered_later rules events place may low lawful later asks =
                 (sends_are_answered_where_lists_agree rules (events ++ h.more) place further may low h.may h.agree starts asks_v name inside);
           }),
     )
+
+-- ---- a view that was just decided
+
+-- who stopped or leaves is out of it
+decided_may_be_repaired_later : (w : World) (place : ℕ) → IsDecidedAnew w place → MayRepairLater w place
+decided_may_be_repaired_later w place h =
+    let q = w.nodes (current w place) in
+    let out : (name number : ℕ) → (has (members q) name ≡ true → ⊥) → (image_of_node q).view_number ≤ number → number ≤ top q → has (log_members_at q.core.log number) name ≡ false =
+    λ name number none viewed within.
+    (let last = h.last in
+    let at : number ≡ top q = omega arith in
+    ap (λ n. has (log_members_at q.core.log n) name) at ∙ ap (λ (i : Image). has (members_of_image i) name) (image_at_top_is_told q.core.log)
+    ∙ false_from_ne_true (has (members q) name) none) in
+    record {
+      gathers = h.gathers;
+      nobody_stopped = λ name t here number above viewed within. out name number (λ listed. (let runs = (h.gathers.each name listed).current_.runs in cc)) viewed within;
+      nobody_leaves = λ name t here number above viewed within. out name number (λ listed. (let stays = h.stays name listed in cc)) viewed within;
+    }
+
+pub decided_views_are_answered : DecidedViewsAreAnswered
+decided_views_are_answered rules events place may low lawful decided =
+    sends_are_answered_later rules events place may low lawful (decided_may_be_repaired_later (run rules events) place decided)

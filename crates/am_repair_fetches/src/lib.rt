@@ -3,7 +3,7 @@
 #![tactic(auto)]
 
 ghost use Rattle.am_repair_fetches.specs.Later.{GroupsAreRepairedLater, GroupsMayBeRepairedLater};
-ghost use Rattle.am_repair_fetches.specs.Rest.{SendsAreAnsweredLater};
+ghost use Rattle.am_repair_fetches.specs.Rest.{DecidedViewsAreAnswered, SendsAreAnsweredLater};
 
 /// Where a lawful run ends with a group that could be repaired if all members of its sequencer's list had the View, there are ticks and hearings
 /// after which it may be repaired. The lossless schedule then repairs it, up to where its sequencer stood first.
@@ -14,6 +14,8 @@ pub fn groups_are_repaired_later()
 
 /// Where nobody who runs asks to join either, there are ticks and hearings after which so many rounds in which applications take, and any more,
 /// have all answered: each member of the sequencer's list has all up to where it stood first, its application too, and no own send is pending.
+/// So it is where a view was just decided, whose members run and don't leave, whoever stopped or leaves elsewhere.
 pub fn sends_are_answered_later()
-    ensures { SendsAreAnsweredLater }
+    ensures later { SendsAreAnsweredLater }
+    ensures decided { DecidedViewsAreAnswered }
 {}
