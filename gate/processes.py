@@ -252,5 +252,5 @@ def try_parts(page: str | None, parts: Iterable[tuple[type[Tried], Callable[[Any
         passed, failed = passed + (not wrong), failed + bool(wrong)
         for line in wrong:
             print(f"refused: {part.__name__}: {line}")
-    print(f"tools/{pathlib.Path(sys.argv[0]).name}: {passed} passed, {failed} failed")
+    print(f"gate/{pathlib.Path(sys.argv[0]).name}: {passed} passed, {failed} failed")
     return 1 if failed else 0

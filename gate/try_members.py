@@ -177,11 +177,11 @@ def over_a_reset(tried: Tried) -> list[str]:
     members = tried.group("0", "1", "2")
     members.pop("0").kill()
     members["1"].tell("send a")
-    time.sleep(0.2)
+    wrong = tried.lacks("1", "\tsend ")
     for member in members.values():
         member.tell("stopped 0")
     lines = members["2"].until("3 1: a")
-    wrong = [] if lines[-2:] == ["2 view 1,2 r1", "3 1: a"] else [f"2 was given {lines}"]
+    wrong += [] if lines[-2:] == ["2 view 1,2 r1", "3 1: a"] else [f"2 was given {lines}"]
     return wrong + ended(members)
 
 

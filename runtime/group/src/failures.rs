@@ -218,7 +218,7 @@ pub struct FailuresInfo {
     pub stopped: Vec<Name>,
     /// Whether its place votes.
     pub votes: bool,
-    /// Why it doesn't, in words, if it doesn't.
+    /// Why it doesn't, in words, if it doesn't and the policy has voters.
     pub why_no_vote: Option<&'static str>,
     /// Who is blocked.
     pub blocked: Vec<Blocked>,

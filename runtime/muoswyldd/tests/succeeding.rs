@@ -7,7 +7,7 @@ use cluster::{run, until, Cluster};
 use serde_json::Value;
 use std::fs;
 use std::process::Command;
-use std::sync::atomic::{AtomicBool, Ordering};
+use std::sync::atomic::{AtomicBool, AtomicU64, Ordering};
 use std::time::{Duration, Instant};
 
 const TOLD: [&str; 2] = ["--failures", "told"];
@@ -70,24 +70,28 @@ fn files_of(cluster: &Cluster, state: &str) -> Vec<String> {
 fn a_member_is_killed_amid_an_end(test: &str, policy: &[&str]) {
     let mut cluster = Cluster::new(test, policy);
     cluster.start_all();
-    let is_over = AtomicBool::new(false);
+    // `lists` is in how many lists messages stand that were answered
+    let (is_over, lists) = (AtomicBool::new(false), AtomicU64::new(0));
     let answered = std::thread::scope(|scope| {
         let sender = |name: &'static str| {
             let mut caller = cluster.caller(name);
-            let is_over = &is_over;
+            let (is_over, lists) = (&is_over, &lists);
             scope.spawn(move || {
                 let mut sent = Vec::new();
                 while !is_over.load(Ordering::SeqCst) {
                     let text = format!("{name}-{}", sent.len());
                     let answer = caller.ask(&format!("send {text}")).unwrap();
                     assert!(answer["sent"].is_u64(), "{answer}");
-                    sent.push((answer["generation"].as_u64().unwrap(), text));
+                    let generation = answer["generation"].as_u64().unwrap();
+                    lists.fetch_max(generation + 1, Ordering::SeqCst);
+                    sent.push((generation, text));
                 }
                 sent
             })
         };
         let threads = [sender("1"), sender("2")];
         std::thread::sleep(Duration::from_millis(300));
+        until(|| lists.load(Ordering::SeqCst) == 1);
         let mut ender = cluster.caller("1");
         assert!(ender.say("succeed window 99"));
         kill(&cluster, "0");
@@ -103,6 +107,7 @@ fn a_member_is_killed_amid_an_end(test: &str, policy: &[&str]) {
         until(|| cluster.ask("2", "status")["generation"] == 1);
         until(|| cluster.ask("1", "status")["members"] == serde_json::json!(["1", "2"]));
         std::thread::sleep(Duration::from_millis(300));
+        until(|| lists.load(Ordering::SeqCst) == 2);
         is_over.store(true, Ordering::SeqCst);
         let threads = threads.into_iter();
         threads
