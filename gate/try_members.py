@@ -32,6 +32,11 @@ def given(members: dict[str, Process], line: str) -> list[str]:
     return [f"{name} wasn't given {line!r}" for name, member in members.items() if not member.wants(line)]
 
 
+def sends(tried: Tried, name: str) -> int:
+    """How many bodies a member has given its node."""
+    return tried.text(name).count("\tsend ")
+
+
 def window_full(tried: Tried) -> list[str]:
     """Where a frozen member keeps the window full the sequencer tells who isn't heard and who holds it, and who sends tells that it does so; where
     the sequencer is frozen the others tell that. Then all goes on, and nothing is lost."""
@@ -41,8 +46,13 @@ def window_full(tried: Tried) -> list[str]:
     for frozen, holds, told in (("2", "0", "nothing is heard of 2"), ("0", "1", "nothing is heard of 0")):
         members[frozen].signal(signal.SIGSTOP)
         for number in range(9):
+            sent = sends(tried, "1") + (frozen == "2" and number < 3)
             members["1"].tell(f"send {frozen} {number} {'x' * 900}")
-            time.sleep(0.1)  # each goes out in an entry of its own: what waits together shares one
+            # each goes out in an entry of its own, as what waits together shares one: three have room in the window, and then one fills it
+            ends = time.monotonic() + SOON
+            time.sleep(0.1)
+            while sends(tried, "1") < sent and time.monotonic() < ends:
+                time.sleep(0.01)
         wrong += [] if members[holds].wants(told) else [f"{holds} doesn't tell that {told}"]
         if frozen == "2" and not members["0"].wants("the window is full: 2 has taken less than the others, and holds them"):
             wrong.append("0 doesn't tell who holds the window")
