@@ -442,7 +442,7 @@ impl World<'_> {
     }
 
     /// Somebody knows that a name has stopped. If it runs, that is a stop, too: it can't act any more.
-    fn note_given_up(&mut self, generation: u32, name: Name) {
+    pub(crate) fn note_given_up(&mut self, generation: u32, name: Name) {
         let order = self.counts.events;
         let named = (generation, name);
         self.given_up.entry(named).or_insert(order);

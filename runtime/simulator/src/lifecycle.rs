@@ -7,6 +7,7 @@ use crate::plan::{Act, Faults};
 use crate::process::{Begins, Process};
 use crate::report::Report;
 use crate::world::{World, TOLD_WITHIN};
+use muoswyld_guarded::Deed;
 use muoswyld_member::{End, Input, Name, Names, Role};
 use std::collections::{BTreeMap, BTreeSet};
 use std::fmt::Write;
@@ -280,9 +281,16 @@ impl World<'_> {
 
     /// A process is no more; everybody is told, sooner or later, or finds it out.
     pub(crate) fn stop(&mut self, place: u8, end: Option<End>) -> Result<(), String> {
-        let Some(process) = self.places[usize::from(place)].take() else {
+        let Some(mut process) = self.places[usize::from(place)].take() else {
             return Ok(());
         };
+        // whom it knew to have stopped, though nothing was done for that yet
+        let time = process.clock.time(self.now);
+        for deed in process.member.deeds(time) {
+            if let Deed::Stopped { generation, name } = deed {
+                self.note_given_up(generation, name);
+            }
+        }
         self.look_at_suspects(&process)?;
         let (name, begun) = (process.name, process.app.name);
         let named = process.app.names.iter();
