@@ -7,6 +7,7 @@ PROGRAM is the command whose word `play` judges, MEMBER the one whose word `run`
 ends by itself, within some seconds. It prints what fails, and how many parts passed.
 """
 
+import contextlib
 import copy
 import json
 import pathlib
@@ -16,7 +17,6 @@ import socket
 import subprocess
 import sys
 import tempfile
-import time
 import zlib
 from typing import Any
 
@@ -28,6 +28,8 @@ from seen import Seen, differences
 from words import end, words
 
 TOP = pathlib.Path(__file__).resolve().parent.parent
+# how many seconds something may take at most, also where the machine has much else to do
+SOON = 30
 
 # a command whose word `play` writes a text that is changed
 FILTER = """\
@@ -257,30 +259,31 @@ def in_order(tried: Tried) -> list[str]:
 def relays(_: Tried) -> list[str]:
     """A relay carries what comes of a place, from where its reader knows that place; it loses, repeats and reorders as many as is said."""
     wrong = []
-    for faults, sent, wanted, counts in (
-        (Faults(), [b"1", b"2"], [b"1", b"2"], Counts(2)),
-        (Faults(repeat=100), [b"1"], [b"1", b"1"], Counts(1, repeated=1)),
-        (Faults(loss=100), [b"1"], [], Counts(1, lost=1)),
-        (Faults(reorder=100), [b"1", b"2", b"3"], [b"2", b"1", b"3"], Counts(3, reordered=2)),
-        (Faults(reorder=100), [b"1"], [b"1"], Counts(1, reordered=1)),
+    for faults, turns, counts in (
+        (Faults(), [(b"12", b"12")], Counts(2)),
+        (Faults(repeat=100), [(b"1", b"11")], Counts(1, repeated=1)),
+        (Faults(loss=100), [(b"1", b"")], Counts(1, lost=1)),
+        # 3 is sent once nothing is held any more
+        (Faults(reorder=100), [(b"12", b"21"), (b"3", b"3")], Counts(3, reordered=2)),
+        (Faults(reorder=100), [(b"1", b"1")], Counts(1, reordered=1)),
     ):
         homes = [socket.socket(socket.AF_INET, socket.SOCK_DGRAM) for _ in range(3)]
         for home in homes:
             home.bind((HOST, 0))
-            home.settimeout(0.5)
         relay = Relay([home.getsockname() for home in homes], faults)
         relay.start()
         homes[2].sendto(b"a stranger", (HOST, relay.port(0, 1)))
-        for data in sent:
-            homes[0].sendto(data, (HOST, relay.port(0, 1)))
-            time.sleep(0.02)
         came = []
-        try:
-            while True:
-                came.append(homes[1].recvfrom(100))
-        except TimeoutError:
-            pass
-        if came != [(data, (HOST, relay.port(1, 0))) for data in wanted] or relay.counts() != counts:
+        for sent, wanted in turns:
+            for data in sent:
+                homes[0].sendto(bytes([data]), (HOST, relay.port(0, 1)))
+            homes[1].settimeout(SOON)
+            came += [homes[1].recvfrom(100) for _ in wanted]
+        homes[1].settimeout(0.5)
+        with contextlib.suppress(TimeoutError):
+            came.append(homes[1].recvfrom(100))
+        wanted = [(bytes([data]), (HOST, relay.port(1, 0))) for _, given in turns for data in given]
+        if came != wanted or relay.counts() != counts:
             wrong.append(f"with {faults} there came {came}, and counted were {relay.counts()}")
         relay.close()
         for home in homes:
