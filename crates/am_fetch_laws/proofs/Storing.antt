@@ -12,14 +12,14 @@ use Rattle.am_step_laws.proofs.Rests.{acts_after_rest}
 -- ---- the tests of a node
 
 -- what a node tests of the numbers of an entry before it stores it
-record Tests (m : Node) (base number : ℕ) : Type 0 where
-  new : nat_le number (top m) ≡ false
-  next : nat_lt (top m + 1) number ≡ false
-  taken : nat_lt m.core.taken base ≡ false
-  within : nat_le (number - max m.core.base base) (m.core.rules.window + 15) ≡ true
+pub record Tests (m : Node) (base number : ℕ) : Type 0 where
+  pub new : nat_le number (top m) ≡ false
+  pub next : nat_lt (top m + 1) number ≡ false
+  pub taken : nat_lt m.core.taken base ≡ false
+  pub within : nat_le (number - max m.core.base base) (m.core.rules.window + 15) ≡ true
 
 -- an entry that may be stored passes them
-tests_of_next_entry : (m : Node) (base number : ℕ) (e : Entry) → MayBeStored m base number e → Tests m base number
+pub tests_of_next_entry : (m : Node) (base number : ℕ) (e : Entry) → MayBeStored m base number e → Tests m base number
 tests_of_next_entry m base number e h =
     let next = h.next in
     let taken = h.taken in

@@ -1,0 +1,17 @@
+//! Laws of ballots: a coordinator fetches what the best vote shows, and then its ballot ends (docs/REPAIR.md).
+#![tactic(auto)]
+
+ghost use Rattle.am_ballot_laws.specs.Fetching.{BallotsFetch, PiecesAreLookedAt, VotersServe};
+
+/// What a coordinator does whose ballot fetches: at its tick it asks the name of the best vote for what comes next; and if it hears a Piece that
+/// comes next and fits, it stores that, and looks at its ballot anew.
+pub fn coordinators_fetch()
+    ensures ticks { BallotsFetch }
+    ensures pieces { PiecesAreLookedAt }
+{}
+
+/// A voter that hears a Fetch of the name that it has promised sends the entries above the number that was stored, eight at most, one after the
+/// other.
+pub fn voters_serve()
+    ensures { VotersServe }
+{}
