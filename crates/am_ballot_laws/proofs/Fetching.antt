@@ -13,8 +13,9 @@ use Rattle.am_model.specs.Resets.{look_at_ballot_anew, fetches_from}
 use Rattle.am_model.specs.Ticks.{tick_of_coordinator}
 use Rattle.am_fetch_laws.proofs.Asking.{fetching_plan_sends_fetch, stamps_differ_either_way, status_of_member}
 use Rattle.am_fetch_laws.proofs.Storing.{Tests, tests_of_next_entry}
-use Rattle.am_fetch_laws.proofs.Serving.{serving_plan_serves}
-use Rattle.am_ballot_laws.specs.Fetching.{FetchesFor, AsksFor, BallotsFetch, with_entry_above, PiecesAreLookedAt, HasPromised, VotersServe}
+use Rattle.am_fetch_laws.proofs.Serving.{served_letters_are_pieces}
+use Rattle.am_fetch_laws.proofs.Words.{end_refresh_rests_with_list, is_sequencer_after_rest}
+use Rattle.am_ballot_laws.specs.Fetching.{FetchesFor, AsksFor, BallotsFetch, with_entry_above, PiecesAreLookedAt, HasPromised, ServesVoted, VotersServe}
 
 -- ---- a tick
 
@@ -86,6 +87,12 @@ fetch_of_promised m v stored h low within =
     rw (other, listed, same, by, a, b) refl
 
 pub voters_serve : VotersServe
-unfolding hear_packet
+unfolding hear_packet finish
 voters_serve m v stored h low within =
-    subst (λ (q : Plan). ServesPieces m v.by stored (finish m q)) (sym (fetch_of_promised m v stored h low within)) (serving_plan_serves m v.by stored)
+    let n = refresh_at_end m in
+    let p = serve_pieces m v.by stored in
+    let below : stamps_are_equal (view m) m.core.promise ≡ false = ap (stamps_are_equal (view m)) h.promised ∙ h.below in
+    let leads : is_sequencer n ≡ false = is_sequencer_after_rest (end_refresh_rests_with_list m).rests ∙ promised_leads_not m below in
+    let sent = served_letters_are_pieces m v.by stored in
+    let quiet : letters_with_accept m p n (p.letters n) ≡ p.letters n = rw leads refl in
+    subst (λ (q : Plan). ServesVoted m v.by stored (finish m q)) (sym (fetch_of_promised m v stored h low within)) (record { node = refl; letters = quiet ∙ sent })

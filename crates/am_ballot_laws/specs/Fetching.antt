@@ -8,12 +8,12 @@ use Rattle.am_base.specs.Stamps.{stamps_are_equal}
 use Rattle.am_packet.specs.declared.packet.Packet.TheVariants.{Fetch, Piece}
 use Rattle.am_packet.specs.Boxes.{letter_to}
 use Rattle.am_model.specs.Ballots.{decide}
-use Rattle.am_model.specs.Emit.{StepResult}
+use Rattle.am_model.specs.Emit.{StepResult, entries_to_serve}
 use Rattle.am_model.specs.Node.{Node, Ballot, top, view, is_member, set_of_one_name, push_entry, trim_node_up_to}
 use Rattle.am_model.specs.Refresh.{refresh_at_end}
 use Rattle.am_model.specs.Resets.{is_unfetchable_view}
 use Rattle.am_model.specs.Step.{step, hear_packet}
-use Rattle.am_fetch_laws.specs.Fetching.{MayBeStored, ServesPieces}
+use Rattle.am_fetch_laws.specs.Fetching.{MayBeStored, pieces}
 
 -- a Member whose open ballot fetches from another name; it has promised a stamp that isn't its list's view
 pub record FetchesFor (m : Node) (b : Ballot) (from : ℕ) : Type 0 where
@@ -51,8 +51,13 @@ pub record HasPromised (m : Node) (v : Stamp) : Type 0 where
   pub listed : is_member m.status ≡ true
   pub promised : m.core.promise ≡ v
   pub other : (v.by == m.core.who) ≡ false
+  pub below : stamps_are_equal (view m) v ≡ false
 
--- its list stays, and it sends what stands above what is stored
+-- its list stays, and it sends what stands above what is stored, eight entries at most
+pub record ServesVoted (m : Node) (s stored : ℕ) (step : StepResult) : Type 0 where
+  pub node : step.node ≡ refresh_at_end m
+  pub letters : step.letters ≡ pieces step.node (set_of_one_name s) (stored + 1) (entries_to_serve m stored)
+
 abbrev pub VotersServe : Type 0
 VotersServe = (m : Node) (v : Stamp) (stored : ℕ) → HasPromised m v → m.core.base ≤ stored → stored ≤ top m
-    → ServesPieces m v.by stored (hear_packet m (Fetch v.by v stored))
+    → ServesVoted m v.by stored (hear_packet m (Fetch v.by v stored))

@@ -93,25 +93,21 @@ fetch_is_served m s stored leads other low within =
     may_by true false false a b = absurd (cc)
     may_by false by own a b = absurd (cc)
 
--- a step that serves
-pub serving_plan_serves : (m : Node) (s stored : ℕ) → ServesPieces m s stored (finish m (serve_pieces m s stored))
-unfolding finish
-serving_plan_serves m s stored =
+-- what is served goes out in the order of the entries
+pub served_letters_are_pieces : (m : Node) (s stored : ℕ) → (serve_pieces m s stored).letters (refresh_at_end m)
+    ≡ pieces (refresh_at_end m) (set_of_one_name s) (stored + 1) (entries_to_serve m stored)
+served_letters_are_pieces m s stored =
+    pieces_come_in_order (refresh_at_end m) (set_of_one_name s) (stored + 1) (entries_to_serve m stored) [] (All-nil (IsNoHigher 16)) (one_name_is_somebody s)
+
+pub fetches_are_served : FetchesAreServed
+unfolding hear_packet finish
+fetches_are_served m s stored leads other low within =
     let p = serve_pieces m s stored in
     let n = refresh_at_end m in
-    let es = entries_to_serve m stored in
-    let to = set_of_one_name s in
-    let sent : letters_of_entries (piece_packet_of n) to (stored + 1) es [] ≡ pieces n to (stored + 1) es =
-    pieces_come_in_order n to (stored + 1) es [] (All-nil (IsNoHigher 16)) (one_name_is_somebody s) in
-    let first = served m p n to (stored + 1) es in
-    record {
+    let first = served m p n (set_of_one_name s) (stored + 1) (entries_to_serve m stored) in
+    subst (λ (q : Plan). ServesPieces m s stored (finish m q)) (sym (fetch_is_served m s stored leads other low within)) (record {
       node = refl;
       first = first.0;
       accept = first.1;
-      letters = ap (letters_with_accept m p n) sent ∙ first.2;
-    }
-
-pub fetches_are_served : FetchesAreServed
-unfolding hear_packet
-fetches_are_served m s stored leads other low within =
-    subst (λ (q : Plan). ServesPieces m s stored (finish m q)) (sym (fetch_is_served m s stored leads other low within)) (serving_plan_serves m s stored)
+      letters = ap (letters_with_accept m p n) (served_letters_are_pieces m s stored) ∙ first.2;
+    })
