@@ -1,18 +1,17 @@
 -- What a coordinator whose ballot fetches asks for and stores, and what the voter serves.
-use Rattle.am_fetch_laws.proofs.Words.{◌≡◌, ℕ, ◌+◌, ◌-◌, ◌<◌, ◌≤◌, ◌==◌, ◌&&◌, ◌||◌, max, nat_lt, nat_le, true, false, [], ◌∷◌, ◌++◌, Option, Some, None, refl, sym, ap, ◌∙◌, subst, arith, nat_tests}
-use Rattle.am_fetch_laws.proofs.Words.{Entry, Stamp, stamps_are_equal, Node, Ballot, Plan, top, view, set_of_one_name, is_member, is_sequencer, acts_in_its_view, finish, step, row, tick_row, tick_by_ballot, tick_by_status}
-use Rattle.am_fetch_laws.proofs.Words.{hear_packet, hear_row, piece_row, piece_for, push_fetched, fetch_row, may_fetch, serve_pieces, is_unfetchable_view, refresh_at_end, stamp_eq_of_itself, plan_with_letter, fetch_packet_of}
-use Rattle.am_fetch_laws.proofs.Words.{Fetch, Piece, MayBeStored, ServesPieces, pieces, letters_of_entries, piece_packet_of, entries_to_serve, letters_with_accept, split_on_bool}
+use Rattle.am_fetch_laws.proofs.Words.{◌≡◌, ℕ, ◌≤◌, ◌==◌, nat_lt, true, false, Some, refl, sym, ap, ◌∙◌, subst, arith, nat_tests}
+use Rattle.am_fetch_laws.proofs.Words.{Entry, Stamp, stamps_are_equal, Node, Ballot, Plan, top, view, set_of_one_name, is_member, is_sequencer, finish, step, row, tick_row, tick_by_ballot, tick_by_status}
+use Rattle.am_fetch_laws.proofs.Words.{hear_packet, hear_row, piece_row, piece_for, push_fetched, fetch_row, serve_pieces, is_unfetchable_view, refresh_at_end, stamp_eq_of_itself, plan_with_letter, fetch_packet_of}
+use Rattle.am_fetch_laws.proofs.Words.{Fetch, MayBeStored, letters_with_accept, split_on_bool}
 use Rattle.am_base.specs.declared.event.NodeEvent.TheVariants as does
 use Rattle.std.specs.Prelude.{Bool, not, if◌then◌else◌}
 use Rattle.am_fetch_laws.proofs.Words.{piece_promised}
 use Rattle.am_model.specs.Emit.{plan_without_letters}
 use Rattle.am_base.specs.declared.outcome.Outcome.TheVariants as said
-use Rattle.am_model.specs.Ballots.{decide, plan_of_verdict}
 use Rattle.am_model.specs.Resets.{look_at_ballot_anew, fetches_from}
 use Rattle.am_model.specs.Ticks.{tick_of_coordinator}
 use Rattle.am_fetch_laws.proofs.Asking.{fetching_plan_sends_fetch, stamps_differ_either_way, status_of_member}
-use Rattle.am_fetch_laws.proofs.Storing.{Tests, tests_of_next_entry}
+use Rattle.am_fetch_laws.proofs.Storing.{tests_of_next_entry}
 use Rattle.am_fetch_laws.proofs.Serving.{served_letters_are_pieces}
 use Rattle.am_fetch_laws.proofs.Words.{end_refresh_rests_with_list, is_sequencer_after_rest}
 use Rattle.am_ballot_laws.specs.Fetching.{FetchesFor, AsksFor, BallotsFetch, with_entry_above, PiecesAreLookedAt, HasPromised, ServesVoted, VotersServe}

@@ -1,1 +1,5 @@
 pub mod Fetching
+pub mod Best
+pub mod Following
+pub mod Exchanged
+pub mod Ending

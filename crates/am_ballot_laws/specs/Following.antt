@@ -1,17 +1,18 @@
 -- How a coordinator that fetches comes to the best vote's list, where their letters aren't lost.
-use Rattle.std.specs.Prelude.{◌≡◌, ℕ, zero, suc, ◌+◌, ◌-◌, ◌*◌, ◌<◌, ◌≤◌, ◌⊎◌, Some, None, true, false, nat_lt}
+use Rattle.std.specs.Prelude.{◌≡◌, ℕ, ◌+◌, ◌-◌, ◌*◌, ◌<◌, ◌≤◌, ◌⊎◌, Some, None, true, false, nat_lt}
 use Rattle.am_base.specs.declared.entry.Entry.{Entry}
 use Rattle.am_base.specs.declared.image.Vote.{Vote}
-use Rattle.am_base.specs.declared.name.Stamp.{Stamp}
 use Rattle.am_base.specs.Lists.{Log, top_of_log, image_of_log, members_of_image, log_entry_at, log_image_at, fits, row_of_name}
 use Rattle.am_base.specs.Names.{has, size, name_is_less}
 use Rattle.am_base.specs.Stamps.{stamps_are_equal}
 use Rattle.am_base.specs.Votes.{vote_is_less}
-use Rattle.am_model.specs.Ballots.{decide, is_waited_for}
+use Rattle.am_base.specs.declared.outcome.Outcome.TheVariants as said
+use Rattle.am_model.specs.Ballots.{decide, is_waited_for, ballot_with_answer, verdict_ending, restart_reports, need_set_of, need_set_without_given_up}
+use Rattle.am_model.specs.Calls.{is_unfinished_ballot}
 use Rattle.am_model.specs.Node.{Node, Ballot, top, image_of_node, names_that_pass}
 use Rattle.am_model.specs.Refresh.{refresh_at_end}
 use Rattle.am_model.specs.Resets.{is_unfetchable_view}
-use Rattle.am_step_laws.specs.Looks.{HasLearned}
+use Rattle.am_step_laws.specs.Looks.{HasLearned, MayDecide, decided_view_node}
 use Rattle.am_fetch_laws.specs.Exchanges.{TwoNodes, exchange, exchanges}
 use Rattle.am_ballot_laws.specs.Fetching.{FetchesFor, HasPromised}
 
@@ -59,3 +60,39 @@ pub record LooksAtWhole (log : Log) (b : Ballot) (n : Node) : Type 0 where
   pub top_ : top whole ≡ top_of_log log
   pub learned : HasLearned whole b
   pub is : n ≡ refresh_at_end (decide whole b).node
+
+-- ---- claims
+
+-- a voter and such a coordinator, which has promised a stamp of its own, as the voter has
+pub record MayFollowVoter (p m : Node) (best : Vote) (b : Ballot) : Type 0 where
+  pub voter : HasPromised p m.core.promise
+  pub own : m.core.promise.by ≡ m.core.who
+  pub list : MayFollow p.core.log (refresh_at_end p).core.base p.core.who best m b
+
+-- the ballot as it is while it fetches what comes next
+abbrev pub fetching_ballot : Ballot → ℕ → ℕ → Ballot
+fetching_ballot b from want = ballot_with_answer b (said.Fetching from want)
+
+-- it has eight entries more, and may go on so
+pub record FollowsFurther (old : Node) (t : TwoNodes) (best : Vote) (b : Ballot) : Type 0 where
+  pub more : top old + 8 ≤ top t.member_
+  pub goes_on : MayFollowVoter t.sequencer t.member_ best (fetching_ballot b t.sequencer.core.who (top t.member_ + 1))
+
+-- an exchange with the voter brings the coordinator eight entries, or the whole list
+abbrev pub ExchangesFollow : Type 0
+ExchangesFollow = (t : TwoNodes) (best : Vote) (b : Ballot) → MayFollowVoter t.sequencer t.member_ best b
+    → LooksAtWhole t.sequencer.core.log (fetching_ballot b t.sequencer.core.who (top t.sequencer)) (exchange t).member_ ⊎ FollowsFurther t.member_ (exchange t) best b
+
+-- in as many exchanges as bring all it comes to the whole list, and looks at its ballot there
+abbrev pub ExchangesReachWhole : Type 0
+ExchangesReachWhole = (t : TwoNodes) (many : ℕ) (best : Vote) (b : Ballot) → MayFollowVoter t.sequencer t.member_ best b → top t.sequencer ≤ top t.member_ + 8 * many
+    → (n : ℕ) × (n ≤ many) × LooksAtWhole t.sequencer.core.log (fetching_ballot b t.sequencer.core.who (top t.sequencer)) (exchanges n t).member_
+
+-- such a look ends the ballot
+abbrev pub LearnedBallotsEnd : Type 0
+LearnedBallotsEnd = (m : Node) (b : Ballot) → HasLearned m b → is_unfinished_ballot (decide m b).node.ballot ≡ false
+
+-- and it decides the view, where enough names are left and the View fits
+abbrev pub LearnedBallotsDecide : Type 0
+LearnedBallotsDecide = (m : Node) (b : Ballot) → MayDecide m b
+    → decide m b ≡ verdict_ending (restart_reports (decided_view_node m b)) b (said.Decided (top m + 1) (need_set_without_given_up b (need_set_of m b)))

@@ -2,6 +2,7 @@
 #![tactic(auto)]
 
 ghost use Rattle.am_ballot_laws.specs.Fetching.{BallotsFetch, PiecesAreLookedAt, VotersServe};
+ghost use Rattle.am_ballot_laws.specs.Following.{ExchangesFollow, ExchangesReachWhole, LearnedBallotsDecide, LearnedBallotsEnd};
 
 /// What a coordinator does whose ballot fetches: at its tick it asks the name of the best vote for what comes next; and if it hears a Piece that
 /// comes next and fits, it stores that, and looks at its ballot anew.
@@ -14,4 +15,14 @@ pub fn coordinators_fetch()
 /// other.
 pub fn voters_serve()
     ensures { VotersServe }
+{}
+
+/// Where such a coordinator's list begins the one of the best vote's name, an exchange of theirs without loss brings it eight entries, or the whole
+/// list. So after enough exchanges it has the whole list, and looks at its ballot there. That look ends the ballot; and it decides the view, if
+/// enough names are left and the View fits.
+pub fn exchanges_end_ballots()
+    ensures once { ExchangesFollow }
+    ensures all { ExchangesReachWhole }
+    ensures ends { LearnedBallotsEnd }
+    ensures decides { LearnedBallotsDecide }
 {}

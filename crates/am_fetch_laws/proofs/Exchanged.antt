@@ -163,7 +163,7 @@ stored_piece_brings log base m e h there =
 -- ---- all that are sent
 
 -- so many entries stand in a list, one after the other
-AllStand : Log → ℕ → List Entry → Type 0
+unfoldable pub AllStand : Log → ℕ → List Entry → Type 0
 AllStand log number es = (k : ℕ) (e : Entry) → slice_get es k ≡ Some e → log_entry_at log (number + k) ≡ Some e
 
 -- what the sequencer's letters tell of it
@@ -172,7 +172,7 @@ record TellsOf (log : Log) (base : ℕ) (n : Node) : Type 0 where
   promise : n.core.promise ≡ (image_of_log log).view
   own : (image_of_log log).view.by ≡ n.core.who
 
-heard_by : (m : Node) (l : Letter) (ls : List Letter) → is_for l m.core.who ≡ true → (hear_letters m (l ∷ ls)).node ≡ (hear_letters (hear_packet m l.packet).node ls).node
+pub heard_by : (m : Node) (l : Letter) (ls : List Letter) → is_for l m.core.who ≡ true → (hear_letters m (l ∷ ls)).node ≡ (hear_letters (hear_packet m l.packet).node ls).node
 unfolding hear_letters
 heard_by m l ls t = rw t refl
 
@@ -293,7 +293,7 @@ first_is_ignored log base m q first rest (inr (to, polls, is)) h =
 -- ---- the sequencer
 
 -- the entries that it serves stand in its list
-served_entries_stand : (q : Node) (stored : ℕ) → q.core.log.start ≤ stored → AllStand q.core.log (stored + 1) (entries_to_serve q stored)
+pub served_entries_stand : (q : Node) (stored : ℕ) → q.core.log.start ≤ stored → AllStand q.core.log (stored + 1) (entries_to_serve q stored)
 unfolding AllStand
 served_entries_stand q stored low k e at =
     let log = q.core.log in
@@ -303,7 +303,7 @@ served_entries_stand q stored low k e at =
     let above : nat_le log.start (stored + k) ≡ true = grind (arith, nat_tests) in
     ap (log_entry_at log) number ∙ rw above (ap (slice_get log.entries) here ∙ there)
 
-how_many_are_served : (q : Node) (stored : ℕ) → q.core.log.start ≤ stored → length (entries_to_serve q stored) ≡ min 8 (top q - stored)
+pub how_many_are_served : (q : Node) (stored : ℕ) → q.core.log.start ≤ stored → length (entries_to_serve q stored) ≡ min 8 (top q - stored)
 how_many_are_served q stored low =
     let a = length-take 8 (drop (stored - q.core.log.start) q.core.log.entries) in
     let b = length-drop (stored - q.core.log.start) q.core.log.entries in
@@ -328,7 +328,7 @@ core_after_second_end q = core_of_refresh_at_end (refresh_at_end q) ∙ refresh_
 differs_either_way : (a b : ℕ) → (a == b) ≡ false → (b == a) ≡ false
 differs_either_way a b f = grind (arith, nat_tests)
 
-hears_one : (q : Node) (l : Letter) → is_for l q.core.who ≡ true
+pub hears_one : (q : Node) (l : Letter) → is_for l q.core.who ≡ true
     → hear_letters q (l ∷ []) ≡ record { node = (hear_packet q l.packet).node; letters = (hear_packet q l.packet).letters }
 unfolding hear_letters
 hears_one q l t = rw t (λ i. record { node = (hear_packet q l.packet).node; letters = append-nil (hear_packet q l.packet).letters i })
