@@ -5,3 +5,4 @@ pub mod Alike
 pub mod Lagging
 pub mod Events
 pub mod Gathering
+pub mod Ballots

@@ -1,6 +1,7 @@
 //! Laws of lawful runs: a member that doesn't have the View of the sequencer that runs has promised no less, and may fetch it (docs/REPAIR.md).
 #![tactic(auto)]
 
+ghost use Rattle.am_fetch_runs.specs.Ballots.{BallotsEndInRuns};
 ghost use Rattle.am_fetch_runs.specs.Behind.{LaggersMayCatchUp, LaggersReachView, MembersHavePromised};
 ghost use Rattle.am_fetch_runs.specs.Events.{LaggersReachViewInRuns};
 ghost use Rattle.am_fetch_runs.specs.Gathering.{MembersGather};
@@ -23,4 +24,10 @@ pub fn laggers_catch_up()
 /// there are ticks and hearings after which each of them acts in that view.
 pub fn members_gather()
     ensures { MembersGather }
+{}
+
+/// In every run in which a coordinator's ballot fetches, and its list begins the one that the best vote shows: the events of enough exchanges with
+/// that voter bring the coordinator there, and so end its ballot.
+pub fn ballots_end()
+    ensures { BallotsEndInRuns }
 {}
