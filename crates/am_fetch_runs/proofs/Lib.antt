@@ -6,3 +6,4 @@ pub mod Lagging
 pub mod Events
 pub mod Gathering
 pub mod Ballots
+pub mod Coordinating

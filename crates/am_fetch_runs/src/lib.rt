@@ -1,7 +1,7 @@
 //! Laws of lawful runs: a member that doesn't have the View of the sequencer that runs has promised no less, and may fetch it (docs/REPAIR.md).
 #![tactic(auto)]
 
-ghost use Rattle.am_fetch_runs.specs.Ballots.{BallotsEndInRuns};
+ghost use Rattle.am_fetch_runs.specs.Ballots.{BallotsEndInRuns, CoordinatorsMayFollow, FetchingBallotsEnd};
 ghost use Rattle.am_fetch_runs.specs.Behind.{LaggersMayCatchUp, LaggersReachView, MembersHavePromised};
 ghost use Rattle.am_fetch_runs.specs.Events.{LaggersReachViewInRuns};
 ghost use Rattle.am_fetch_runs.specs.Gathering.{MembersGather};
@@ -27,7 +27,10 @@ pub fn members_gather()
 {}
 
 /// In every run in which a coordinator's ballot fetches, and its list begins the one that the best vote shows: the events of enough exchanges with
-/// that voter bring the coordinator there, and so end its ballot.
+/// that voter bring the coordinator there, and so end its ballot. In every lawful run that list does, if both run, nobody is waited for, the voter
+/// has promised no other stamp, and the coordinator has taken what the voter trims at the end of a step.
 pub fn ballots_end()
-    ensures { BallotsEndInRuns }
+    ensures runs { BallotsEndInRuns }
+    ensures may { CoordinatorsMayFollow }
+    ensures lawful { FetchingBallotsEnd }
 {}
