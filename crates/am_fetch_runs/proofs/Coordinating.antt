@@ -1,19 +1,18 @@
 -- Where a lawful run ends, a coordinator whose ballot fetches may follow the best vote's name.
-use Rattle.am_fetch_runs.proofs.Words.{◌≡◌, inl, inr, ℕ, zero, suc, ◌+◌, ◌-◌, ◌<◌, ◌≤◌, ◌==◌, nat_lt, true, false, List, [], ◌∷◌, ◌++◌, length, take, slice_get, None, Some, refl, sym, ap, ◌∙◌, subst, arith, nat_tests}
-use Rattle.am_fetch_runs.proofs.Words.{View, Rules, Image, Stamp, Entry, has, blank, log_image_at, log_entry_at, stamps_are_equal, stamp_is_less, split_on_bool, both_of_and, eqb-true, Node, top, view, image_of_node, is_member, World, run, is_stopped}
+use Rattle.am_fetch_runs.proofs.Words.{◌≡◌, inl, inr, ℕ, ◌+◌, ◌-◌, ◌<◌, ◌≤◌, ◌==◌, nat_lt, true, false, List, [], ◌∷◌, ◌++◌, length, take, slice_get, None, Some, refl, sym, ap, ◌∙◌, subst, arith, nat_tests}
+use Rattle.am_fetch_runs.proofs.Words.{View, Rules, Image, Stamp, Entry, has, blank, log_image_at, log_entry_at, stamps_are_equal, stamp_is_less, split_on_bool, both_of_and, Node, top, view, image_of_node, is_member, World, run, is_stopped}
 use Rattle.am_fetch_runs.proofs.Words.{IsGoodList, IsBeginningOf, is_member_at_end, key_of_stamp, stamp_of_list, image_of_list, beginning_of_good_is_good, shorter_beginning_begins_longer, view_after_pushed_view, name_of_view_is_byte, lowest_name_or_zero}
 use Rattle.am_fetch_runs.proofs.Words.{view_key_grows_along_list, image_of_whole_list, length_of_whole_list, image_at_of_whole_list, Group, chain_of, Following, GroupKeeps, IsUp, group_run_is_kept, run_trims_only_taken, names_hold_in_runs}
 use Rattle.am_fetch_runs.proofs.Words.{key_is_less_for_lesser_stamp, stamp_eq_gives_equality, member_status_has_log, member_has_not_departed, taken_front_begins_list, length_of_taken_list, begins_push_next_entry}
-use Rattle.std.specs.Prelude.{◌≢◌, ◌⊎◌, not, ◌||◌, ◌&&◌}
+use Rattle.std.specs.Prelude.{◌≢◌, ◌⊎◌, not}
 use Rattle.am_base.specs.declared.image.Vote.{Vote}
 use Rattle.am_base.specs.declared.entry.GroupView.{GroupView}
 use Rattle.am_base.specs.Lists.{fits, row_of_name, members_of_image}
 use Rattle.am_base.specs.Votes.{NamedVote, vote_is_less}
-use Rattle.am_base.specs.Names.{size}
 use Rattle.am_base.proofs.Prefixes.{take_length_of_beginning}
 use Rattle.am_node_defs.proofs.Lives.{entry_fits_at_its_number, unused_places_after_entries, UnusedPlacesHaveNoLife}
-use Rattle.am_model.specs.Node.{Ballot, names_that_pass}
-use Rattle.am_model.specs.Ballots.{own_vote, need_set_of, is_waited_for}
+use Rattle.am_model.specs.Node.{Ballot}
+use Rattle.am_model.specs.Ballots.{own_vote}
 unfoldable use Rattle.am_model.specs.Ballots.{best_vote_for_ballot}
 use Rattle.am_model.specs.Refresh.{refresh_at_end}
 use Rattle.am_model.specs.Resets.{is_unfetchable_view}
