@@ -19,7 +19,7 @@ use Rattle.am_ballot_laws.specs.Fetching.{FetchesFor, AsksFor, BallotsFetch, wit
 -- ---- a tick
 
 -- who has promised another view leads not
-promised_leads_not : (m : Node) → stamps_are_equal (view m) m.core.promise ≡ false → is_sequencer m ≡ false
+pub promised_leads_not : (m : Node) → stamps_are_equal (view m) m.core.promise ≡ false → is_sequencer m ≡ false
 promised_leads_not m below =
     let differ = stamps_differ_either_way (view m) m.core.promise below in
     split_on_bool (is_member m.status) (λ t. rw (t, differ) refl) (λ f. rw f refl)

@@ -1,4 +1,5 @@
 pub mod Fetching
+pub mod Voting
 pub mod Best
 pub mod Following
 pub mod Exchanged

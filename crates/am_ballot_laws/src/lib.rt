@@ -3,6 +3,7 @@
 
 ghost use Rattle.am_ballot_laws.specs.Fetching.{BallotsFetch, PiecesAreLookedAt, VotersServe};
 ghost use Rattle.am_ballot_laws.specs.Following.{ExchangesFollow, ExchangesReachWhole, LearnedBallotsDecide, LearnedBallotsEnd};
+ghost use Rattle.am_ballot_laws.specs.Voting.{CoordinatorsInvite, GiveUpsLook, InvitesAreVoted, ResetsLook, VotersAreHeard, VotesLook};
 
 /// What a coordinator does whose ballot fetches: at its tick it asks the name of the best vote for what comes next; and if it hears a Piece that
 /// comes next and fits, it stores that, and looks at its ballot anew.
@@ -25,4 +26,19 @@ pub fn exchanges_end_ballots()
     ensures all { ExchangesReachWhole }
     ensures ends { LearnedBallotsEnd }
     ensures decides { LearnedBallotsDecide }
+{}
+
+/// How a ballot comes to look: a Reset begins one, and a coordinator looks at its ballot if a name is given up, and if it hears a vote.
+pub fn coordinators_look()
+    ensures resets { ResetsLook }
+    ensures given_up { GiveUpsLook }
+    ensures votes { VotesLook }
+{}
+
+/// What brings it a vote: at its tick a coordinator invites all names that it waits for; and a voter that hears the Invite promises its stamp, if
+/// it has promised no greater one, and shows its list. So an exchange of the two without loss brings the coordinator this vote.
+pub fn voters_vote()
+    ensures ticks { CoordinatorsInvite }
+    ensures invites { InvitesAreVoted }
+    ensures heard { VotersAreHeard }
 {}
