@@ -15,6 +15,7 @@ use Rattle.am_fetch_laws.proofs.Asking.{one_name_is_there}
 use Rattle.am_fetch_laws.proofs.Exchanged.{leads_on_after_end, AllStand, heard_by, hears_one, served_entries_stand, how_many_are_served}
 use Rattle.am_ballot_laws.specs.Fetching.{FetchesFor, with_entry_above}
 use Rattle.am_ballot_laws.specs.Following.{BestIs, MayFollow, LooksAtWhole, MayFollowVoter, fetching_ballot, FollowsFurther, ExchangesFollow, ExchangesReachWhole}
+use Rattle.am_ballot_laws.proofs.Voting.{coordinates_after_end}
 use Rattle.am_ballot_laws.proofs.Fetching.{ballots_fetch, pieces_are_looked_at, voters_serve}
 use Rattle.am_ballot_laws.proofs.Following.{Followed, may_be_stored, piece_goes_on, piece_ends}
 
@@ -94,12 +95,9 @@ follows_after_end log base from best m b h =
     let window = ap (λ (y : Rules). y.window) r.rests.rules in
     record {
       fetches = record {
-        listed = ap is_member r.rests.status ∙ h.fetches.listed;
-        last = r.rests.ballot ∙ h.fetches.last;
-        open_ = h.fetches.open_;
+        coordinates = coordinates_after_end m b h.fetches.coordinates;
         answer = h.fetches.answer ∙ ap (λ k. said.Fetching from (k + 1)) (sym same);
         other = ap (λ i. from == i) r.rests.who ∙ h.fetches.other;
-        below = (λ i. stamps_are_equal (r.rests.view i) (r.rests.promise i)) ∙ h.fetches.below;
       };
       votes = subst (λ i. BestIs i b from best log) (sym r.rests.who) h.votes;
       missing = omega (arith, same, h.missing);
@@ -126,10 +124,10 @@ exchange_is p m best b h =
     let rises = (end_refresh_rests_with_list p).rests.base in
     let served = voters_serve p v (top m) h.voter (omega arith) (omega arith) in
     let f = hear_packet p (Fetch m.core.who v (top m)) in
-    let by : hear_packet p (Fetch v.by v (top m)) ≡ f = ap (λ i. hear_packet p (Fetch i v (top m))) h.own in
+    let by : hear_packet p (Fetch v.by v (top m)) ≡ f = ap (λ i. hear_packet p (Fetch i v (top m))) h.list.fetches.own in
     let node : f.node ≡ refresh_at_end p = sym (ap (λ (s : StepResult). s.node) by) ∙ served.node in
     let letters : f.letters ≡ pieces (refresh_at_end p) (set_of_one_name m.core.who) (top m + 1) (entries_to_serve p (top m)) = sym (ap (λ (s : StepResult). s.letters) by) ∙ served.letters
-    ∙ (λ i. pieces (served.node i) (set_of_one_name (h.own i)) (top m + 1) (entries_to_serve p (top m))) in
+    ∙ (λ i. pieces (served.node i) (set_of_one_name (h.list.fetches.own i)) (top m + 1) (entries_to_serve p (top m))) in
     let l = letter_to (set_of_one_name p.core.who) (Fetch m.core.who v (top m)) in
     let heard : hear_letters p (step m does.Tick).letters ≡ record { node = f.node; letters = f.letters } = ap (hear_letters p) asked.letters ∙ hears_one p l (one_name_is_there p.core.who) in
     (λ i. record { sequencer = (heard i).node; member_ = (hear_letters (asked.node i) (heard i).letters).node })
@@ -173,7 +171,6 @@ exchanges_follow t best b h =
                 other = (λ i. ((f.promise ∙ r.rests.promise) i).by == rp.rests.who i) ∙ h.voter.other;
                 below = (λ i. stamps_are_equal (rp.rests.view i) ((f.promise ∙ r.rests.promise) i)) ∙ h.voter.below;
               };
-              own = ap (λ (v : Stamp). v.by) (f.promise ∙ r.rests.promise) ∙ h.own ∙ sym (f.who ∙ r.rests.who);
               list = subst (λ i. MayFollow n.core.log (refresh_at_end n).core.base i best y (fetching_ballot b i (top y + 1))) (sym rp.rests.who)
                   (subst (λ (g : Log). MayFollow g (refresh_at_end n).core.base from best y (fetching_ballot b from (top y + 1))) (sym on.log)
                   (subst (λ k. MayFollow log k from best y (fetching_ballot b from (top y + 1))) (sym on.base) f.goes_on));

@@ -1,5 +1,5 @@
 -- What a Piece brings a coordinator that fetches.
-use Rattle.am_fetch_laws.proofs.Words.{◌≡◌, ℕ, ◌+◌, ◌-◌, ◌<◌, ◌==◌, nat_lt, true, false, Some, refl, sym, ap, ◌∙◌, subst, arith, nat_tests, has, size}
+use Rattle.am_fetch_laws.proofs.Words.{◌≡◌, ℕ, ◌+◌, ◌-◌, ◌<◌, ◌==◌, nat_lt, true, false, Option, Some, refl, sym, ap, ◌∙◌, subst, arith, nat_tests, has, size}
 use Rattle.am_fetch_laws.proofs.Words.{Entry, Stamp, stamps_are_equal, Image, Log, top_of_log, log_entry_at, log_image_at, image_of_log, row_of_name, fits, after, Node, Ballot, top, view, image_of_node, trim_node_up_to, is_member}
 use Rattle.am_fetch_laws.proofs.Words.{refresh_at_end, end_refresh_rests_with_list, image_of_pushed_entry, is_unfetchable_view, MayBeStored, length-append}
 use Rattle.am_base.specs.declared.image.Vote.{Vote}
@@ -12,6 +12,8 @@ unfoldable use Rattle.am_model.specs.Ballots.{decide, best_vote_for_ballot}
 use Rattle.am_model.specs.Node.{names_that_pass}
 use Rattle.am_node_defs.proofs.Ends.{image_at_next_number, image_at_top_is_told}
 use Rattle.am_ballot_laws.specs.Fetching.{with_entry_above}
+use Rattle.am_ballot_laws.specs.Voting.{Coordinates}
+use Rattle.am_ballot_laws.proofs.Voting.{coordinates_after_end}
 use Rattle.am_ballot_laws.specs.Following.{BestIs, MayFollow, LooksAtWhole, fetching_ballot}
 use Rattle.am_ballot_laws.proofs.Best.{best_stays, best_is_own}
 
@@ -91,6 +93,20 @@ module _ (log : Log) (base from : ℕ) (best : Vote) (m : Node) (b : Ballot) (e 
       let other : ((best_vote_for_ballot x b).by == x.core.who) ≡ false = ap (λ (v : NamedVote). v.by == x.core.who) is ∙ h.fetches.other in
       rw (needed, nobody, other) (ap (λ (v : NamedVote). verdict_going_on x b (said.Fetching v.by (top x + 1))) is)
 
+  -- it coordinates on, with its ballot as it is or with another answer
+  coordinates : (c : Ballot) → c.is_over ≡ false → c.stamp ≡ b.stamp → Coordinates (record x { ballot = Some c }) c
+  coordinates c open_ stamp =
+      let missing = h.missing in
+      let kept = h.kept in
+      record {
+        listed = h.fetches.listed;
+        last = refl;
+        open_ = open_;
+        stamp = stamp ∙ h.fetches.stamp;
+        own = h.fetches.own;
+        below = ap (λ (i : Image). stamps_are_equal i.view m.core.promise) told ∙ h.differ (top m + 1) (omega arith) (omega arith);
+      }
+
   pub piece_goes_on : top m + 1 < top_of_log log → Followed log base from best b 1 m (refresh_at_end (decide x b).node)
   piece_goes_on short =
       let c = ballot_with_answer b (said.Fetching from (top x + 1)) in
@@ -107,12 +123,9 @@ module _ (log : Log) (base from : ℕ) (best : Vote) (m : Node) (b : Ballot) (e 
         promise = r.rests.promise;
         goes_on = subst (λ k. MayFollow log base from best n (fetching_ballot b from (k + 1))) (ap (λ (l : Log). top_of_log l) (sym r.log)) (record {
           fetches = record {
-            listed = ap is_member r.rests.status ∙ h.fetches.listed;
-            last = r.rests.ballot;
-            open_ = refl;
+            coordinates = coordinates_after_end p c (coordinates c refl refl);
             answer = ap (λ (l : Log). said.Fetching from (top_of_log l + 1)) (sym r.log);
             other = ap (λ i. from == i) r.rests.who ∙ h.fetches.other;
-            below = ap (λ (v : Stamp). stamps_are_equal (view n) v) r.rests.promise ∙ ap (λ (i : Image). stamps_are_equal i.view m.core.promise) told_n ∙ h.differ (top n) (omega arith) (omega arith);
           };
           votes = subst (λ i. BestIs i c from best log) (sym r.rests.who) (same_votes m.core.who b c from best log refl refl h.votes);
           missing = omega arith;
@@ -139,6 +152,7 @@ module _ (log : Log) (base from : ℕ) (best : Vote) (m : Node) (b : Ballot) (e 
         whole = x;
         told_ = whole;
         top_ = longer ∙ all;
+        coordinates = subst (λ (o : Option Ballot). Coordinates (record x { ballot = o }) b) (sym h.fetches.last) (coordinates b h.fetches.open_ refl);
         learned = record {
           needed = ap (λ set. has set x.core.who) members_ ∙ h.votes.needed;
           all = ap (λ set. nat_lt 0 (size (names_that_pass (is_waited_for x.core.who b) set))) members_ ∙ h.votes.nobody;

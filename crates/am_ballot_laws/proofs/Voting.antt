@@ -17,9 +17,10 @@ use Rattle.am_model.specs.Emit.{StepResult, invite_packet_of}
 unfoldable use Rattle.am_model.specs.Resets.{invite_row, vote_row}
 use Rattle.am_model.specs.Resets.{take_vote}
 use Rattle.am_model.specs.Ticks.{tick_of_coordinator}
+use Rattle.am_model.proofs.Sets.{set_with_name_has_size}
 use Rattle.am_step_laws.specs.Looks.{MayBegin}
 use Rattle.am_fetch_laws.specs.Exchanges.{TwoNodes, Heard, exchange, hear_letters}
-use Rattle.am_fetch_laws.proofs.Asking.{one_name_is_there, one_name_is_somebody, named_set_has_somebody, status_of_member}
+use Rattle.am_fetch_laws.proofs.Asking.{one_name_is_there, one_name_is_somebody, status_of_member}
 use Rattle.am_fetch_laws.proofs.Exchanged.{hears_one}
 use Rattle.am_ballot_laws.proofs.Fetching.{promised_leads_not}
 use Rattle.am_ballot_laws.specs.Voting.{ResetsLook, Coordinates, GiveUpsLook, Invites, CoordinatorsInvite, VotesLook, MayVote, Votes, InvitesAreVoted, WaitsForVoter, voted, VotersAreHeard}
@@ -110,7 +111,7 @@ votes_look m b s vote h other kept = ap (λ (p : Plan). (finish m p).node) (vote
 -- ---- an exchange
 
 -- the end of a step
-coordinates_after_end : (m : Node) (b : Ballot) → Coordinates m b → Coordinates (refresh_at_end m) b
+pub coordinates_after_end : (m : Node) (b : Ballot) → Coordinates m b → Coordinates (refresh_at_end m) b
 coordinates_after_end m b h =
     let r = end_refresh_rests_with_list m in
     record {
@@ -118,6 +119,7 @@ coordinates_after_end m b h =
       last = r.rests.ballot ∙ h.last;
       open_ = h.open_;
       stamp = h.stamp ∙ sym r.rests.promise;
+      own = ap (λ (v : Stamp). v.by) r.rests.promise ∙ h.own ∙ sym r.rests.who;
       below = (λ i. stamps_are_equal (r.rests.view i) (r.rests.promise i)) ∙ h.below;
     }
 
@@ -125,21 +127,23 @@ pub voters_are_heard : VotersAreHeard
 voters_are_heard p m b names h =
     let v = m.core.promise in
     let c = h.coordinates in
-    let asked = coordinators_invite m b names c h.answer (named_set_has_somebody names p.core.who h.among) in
+    let some = set_with_name_has_size names p.core.who h.among in
+    let somebody : (size names == 0) ≡ false = grind (arith, nat_tests) in
+    let asked = coordinators_invite m b names c h.answer somebody in
     let x = refresh_at_end m in
     let r = end_refresh_rests_with_list m in
     let f = hear_packet p (packet.Invite m.core.who v) in
-    let by : hear_packet p (packet.Invite v.by v) ≡ f = ap (λ i. hear_packet p (packet.Invite i v)) h.own in
+    let by : hear_packet p (packet.Invite v.by v) ≡ f = ap (λ i. hear_packet p (packet.Invite i v)) c.own in
     let vote = invites_are_voted p v h.voter in
     let node : f.node ≡ voted p m = sym (ap (λ (s : StepResult). s.node) by) ∙ vote.node in
     let l = letter_to names (packet.Invite m.core.who v) in
     let back = sym r.rests.promise in
     let reply = letter_to (set_of_one_name m.core.who) (packet.Vote p.core.who x.core.promise (own_vote (voted p m))) in
     let letters : f.letters ≡ reply ∷ [] = sym (ap (λ (s : StepResult). s.letters) by) ∙ vote.letters
-    ∙ (λ i. letter_to (set_of_one_name (h.own i)) (packet.Vote p.core.who (back i) (own_vote (vote.node i))) ∷ []) in
+    ∙ (λ i. letter_to (set_of_one_name (c.own i)) (packet.Vote p.core.who (back i) (own_vote (vote.node i))) ∷ []) in
     let heard : hear_letters p (step m does.Tick).letters ≡ record { node = f.node; letters = f.letters } = ap (hear_letters p) asked.letters ∙ hears_one p l h.among in
     let mine : has (set_of_one_name m.core.who) x.core.who ≡ true = ap (has (set_of_one_name m.core.who)) r.rests.who ∙ one_name_is_there m.core.who in
-    let other : (p.core.who == x.core.who) ≡ false = ap (λ i. p.core.who == i) (r.rests.who ∙ sym h.own) ∙ turned v.by p.core.who h.voter.other in
+    let other : (p.core.who == x.core.who) ≡ false = ap (λ i. p.core.who == i) (r.rests.who ∙ sym c.own) ∙ turned v.by p.core.who h.voter.other in
     let kept : (hear_letters x (reply ∷ [])).node ≡ refresh_at_end (decide x (ballot_with_vote b p.core.who (own_vote (voted p m)))).node =
     ap (λ (g : Heard). g.node) (hears_one x reply mine) ∙ votes_look x b p.core.who (own_vote (voted p m)) (coordinates_after_end m b c) other h.kept in
     (λ i. record { sequencer = (heard i).node; member_ = (hear_letters (asked.node i) (heard i).letters).node })

@@ -14,15 +14,14 @@ use Rattle.am_model.specs.Refresh.{refresh_at_end}
 use Rattle.am_model.specs.Resets.{is_unfetchable_view}
 use Rattle.am_model.specs.Step.{step, hear_packet}
 use Rattle.am_fetch_laws.specs.Fetching.{MayBeStored, pieces}
+use Rattle.am_ballot_laws.specs.Voting.{Coordinates}
 
--- a Member whose open ballot fetches from another name; it has promised a stamp that isn't its list's view
+-- a coordinator whose ballot fetches from another name
 pub record FetchesFor (m : Node) (b : Ballot) (from : ℕ) : Type 0 where
-  pub listed : is_member m.status ≡ true
-  pub last : m.ballot ≡ Some b
-  pub open_ : b.is_over ≡ false
+  pub coordinates : Coordinates m b
+  pub open coordinates use *
   pub answer : b.answer ≡ said.Fetching from (top m + 1)
   pub other : (from == m.core.who) ≡ false
-  pub below : stamps_are_equal (view m) m.core.promise ≡ false
 
 -- ---- the coordinator
 

@@ -14,6 +14,7 @@ use Rattle.am_model.specs.Refresh.{refresh_at_end}
 use Rattle.am_model.specs.Resets.{is_unfetchable_view}
 use Rattle.am_step_laws.specs.Looks.{HasLearned, MayDecide, decided_view_node}
 use Rattle.am_fetch_laws.specs.Exchanges.{TwoNodes, exchange, exchanges}
+use Rattle.am_ballot_laws.specs.Voting.{Coordinates}
 use Rattle.am_ballot_laws.specs.Fetching.{FetchesFor, HasPromised}
 
 -- what a list shows as a vote up to a number
@@ -58,15 +59,15 @@ pub record LooksAtWhole (log : Log) (b : Ballot) (n : Node) : Type 0 where
   pub whole : Node
   pub told_ : image_of_node whole ≡ image_of_log log
   pub top_ : top whole ≡ top_of_log log
+  pub coordinates : Coordinates whole b
   pub learned : HasLearned whole b
   pub is : n ≡ refresh_at_end (decide whole b).node
 
 -- ---- claims
 
--- a voter and such a coordinator, which has promised a stamp of its own, as the voter has
+-- a voter and such a coordinator, whose stamp the voter has promised
 pub record MayFollowVoter (p m : Node) (best : Vote) (b : Ballot) : Type 0 where
   pub voter : HasPromised p m.core.promise
-  pub own : m.core.promise.by ≡ m.core.who
   pub list : MayFollow p.core.log (refresh_at_end p).core.base p.core.who best m b
 
 -- the ballot as it is while it fetches what comes next

@@ -1,3 +1,3 @@
+pub mod Voting
 pub mod Fetching
 pub mod Following
-pub mod Voting

@@ -23,12 +23,13 @@ ResetsLook = (m : Node) (least resilience : ℕ) → MayBegin m
 
 -- ---- the coordinator
 
--- a Member with an open ballot, whose stamp it has promised, and isn't its list's view
+-- a Member with an open ballot; it has promised the ballot's stamp, which is its own, and isn't its list's view
 pub record Coordinates (m : Node) (b : Ballot) : Type 0 where
   pub listed : is_member m.status ≡ true
   pub last : m.ballot ≡ Some b
   pub open_ : b.is_over ≡ false
   pub stamp : b.stamp ≡ m.core.promise
+  pub own : m.core.promise.by ≡ m.core.who
   pub below : stamps_are_equal (view m) m.core.promise ≡ false
 
 -- it looks at its ballot if a name is given up
@@ -76,7 +77,6 @@ pub record WaitsForVoter (p m : Node) (b : Ballot) (names : List ℕ) : Type 0 w
   pub answer : b.answer ≡ said.Waiting names
   pub among : has names p.core.who ≡ true
   pub kept : b.given_up p.core.who ≡ false
-  pub own : m.core.promise.by ≡ m.core.who
   pub voter : MayVote p m.core.promise
 
 -- the voter once it has promised the coordinator's stamp

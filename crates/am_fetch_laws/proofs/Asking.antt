@@ -18,15 +18,11 @@ one_name_is_there name = grind (arith, nat_tests)
 place_of_name_is_taken : (set : List ℕ) (name : ℕ) → has set name ≡ true → slice_index set (place_of_name name) ≡ life_of_name name
 place_of_name_is_taken set name h = grind (arith, nat_tests)
 
--- a set that has a name isn't empty
-pub named_set_has_somebody : (set : List ℕ) (name : ℕ) → has set name ≡ true → (size set == 0) ≡ false
-named_set_has_somebody set name h =
-    let taken = place_of_name_is_taken set name h in
-    let some = occupied_place_counts_in_size set (place_of_name name) (omega arith) in
-    grind (arith, nat_tests)
-
 pub one_name_is_somebody : (name : ℕ) → (size (set_of_one_name name) == 0) ≡ false
-one_name_is_somebody name = named_set_has_somebody (set_of_one_name name) name (one_name_is_there name)
+one_name_is_somebody name =
+    let taken = place_of_name_is_taken (set_of_one_name name) name (one_name_is_there name) in
+    let some = occupied_place_counts_in_size (set_of_one_name name) (place_of_name name) (omega arith) in
+    grind (arith, nat_tests)
 
 -- it sends one Fetch, of what the node had promised and stored
 pub fetching_plan_sends_fetch : (m p : Node) (o : Outcome) (from : ℕ) → is_sequencer p ≡ false

@@ -343,15 +343,18 @@ module _ (rules : Rules) (w : World) (s : Group) (voter name : ℕ) (b : Ballot)
       other = (λ i. own_stamp i == who_p i) ∙ turned voter name h.other;
       below = ap (λ (u : Stamp). stamps_are_equal u c.core.promise) (ap (λ (i : Image). i.view) (sym (image_at_top_is_told p.core.log))) ∙ differ (top p) (omega arith);
     };
-    own = own_stamp ∙ sym who_c;
     list = subst (λ i. MayFollow p.core.log (refresh_at_end p).core.base i best.vote c b) (sym who_p) (record {
       fetches = record {
-        listed = h.member_;
-        last = h.last;
-        open_ = h.open_;
+        coordinates = record {
+          listed = h.member_;
+          last = h.last;
+          open_ = h.open_;
+          stamp = same_stamp;
+          own = own_stamp ∙ sym who_c;
+          below = ap (λ (i : Image). stamps_are_equal i.view c.core.promise) told_ ∙ differ (top c) kept_from;
+        };
         answer = h.answer;
         other = ap (λ i. voter == i) who_c ∙ h.other;
-        below = ap (λ (i : Image). stamps_are_equal i.view c.core.promise) told_ ∙ differ (top c) kept_from;
       };
       votes = subst (λ i. BestIs i b voter best.vote p.core.log) (sym who_c) best_is;
       missing = missing;

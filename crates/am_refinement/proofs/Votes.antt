@@ -93,7 +93,7 @@ is_some_of test names place low =
     or_right (life == 0) (life == all) t))
 
 -- who is among those of a set that pass is in the set, and passes
-those_in : (test : ℕ → Bool) (names : List ℕ) (j : ℕ) → has (names_that_pass test names) j ≡ true → (has names j ≡ true) × (test j ≡ true)
+pub those_in : (test : ℕ → Bool) (names : List ℕ) (j : ℕ) → has (names_that_pass test names) j ≡ true → (has names j ≡ true) × (test j ≡ true)
 unfolding names_that_pass
 those_in test names j in_ =
     let is = slice_index-by_place (λ place. life_where_name_passes test place (slice_index names place)) (place_of_name j) (mod_sixteen_lt j) in
