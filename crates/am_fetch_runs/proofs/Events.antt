@@ -42,20 +42,20 @@ hearing_keeps_name m p = changes_keep_property (HasThisName m.core.who) (change_
 tick_keeps_name : (m : Node) → (step m does.Tick).node.core.who ≡ m.core.who
 tick_keeps_name m = changes_keep_property (HasThisName m.core.who) (change_keeps_name m.core.who) (steps_have_effects m does.Tick).changes refl
 
-place_is_of_its_name : (w : World) (i : ℕ) → IsThereNow w i → current w (place_of_name (place_of_name i)) ≡ i
+pub place_is_of_its_name : (w : World) (i : ℕ) → IsThereNow w i → current w (place_of_name (place_of_name i)) ≡ i
 place_is_of_its_name w i h = let same : place_of_name (place_of_name i) ≡ place_of_name i = omega arith in ap (current w) same ∙ h.now
 
 -- ---- what an event changes
 
 -- one node and the letters alone
-record OneMoved (u v : World) (i : ℕ) (n : Node) (more : List Letter) : Type 0 where
-  node : v.nodes i ≡ n
-  others : (j : ℕ) → (j == i) ≡ false → v.nodes j ≡ u.nodes j
-  letters : v.letters ≡ u.letters ++ more
-  lives : v.lives ≡ u.lives
-  stopped : v.stopped ≡ u.stopped
+pub record OneMoved (u v : World) (i : ℕ) (n : Node) (more : List Letter) : Type 0 where
+  pub node : v.nodes i ≡ n
+  pub others : (j : ℕ) → (j == i) ≡ false → v.nodes j ≡ u.nodes j
+  pub letters : v.letters ≡ u.letters ++ more
+  pub lives : v.lives ≡ u.lives
+  pub stopped : v.stopped ≡ u.stopped
 
-stepped : (u : World) (e : Event) (i : ℕ) (s : StepResult) → OneMoved u (world_with_step u e i s) i s.node s.letters
+pub stepped : (u : World) (e : Event) (i : ℕ) (s : StepResult) → OneMoved u (world_with_step u e i s) i s.node s.letters
 unfolding world_with_step
 stepped u e i s = record {
   node = (let t = eq-eqb i i refl in rw t refl);

@@ -1,0 +1,52 @@
+-- What is claimed of one member that resets, where nobody asks to join: it decides a view, and all that the view's members sent is answered.
+use Rattle.std.specs.Prelude.{◌≡◌, ◌⊎◌, ℕ, ◌<◌, List, ◌++◌, Some, true, false, All}
+use Rattle.am_base.specs.declared.outcome.Outcome.TheVariants as said
+use Rattle.am_base.specs.Founding.{Rules, MayFound}
+use Rattle.am_base.specs.Names.{has}
+use Rattle.am_base.specs.Stamps.{stamp_is_less}
+use Rattle.am_group.specs.declared.event.Act.TheVariants as act
+use Rattle.am_group.specs.declared.event.Event.{Event}
+use Rattle.am_model.specs.Node.{Node, Ballot, members, is_member}
+use Rattle.am_group_defs.specs.Lawful.{lawful_front}
+use Rattle.am_group_defs.specs.Settle.{event_at}
+use Rattle.am_group_defs.specs.World.{World, current, is_stopped, run}
+use Rattle.am_fetch_runs.specs.Gathering.{IsCurrent, IsTickOrHearing}
+use Rattle.am_repair_takes.specs.Resting.{NobodyAsks}
+use Rattle.am_repair_fetches.specs.Rest.{IsDecidedAnew, AreAnsweredLater}
+
+-- a current name that runs may vote for another: it is a Member, isn't leaving, and has promised no more than that name
+pub record MayVoteFor (w : World) (c name : ℕ) : Type 0 where
+  pub current_ : IsCurrent w name
+  pub member_ : is_member (w.nodes name).status ≡ true
+  pub stays : (w.nodes name).leaving ≡ false
+  pub promised : stamp_is_less (w.nodes c).core.promise (w.nodes name).core.promise ≡ false
+
+-- a member may reset: whoever is in the list of a name that may vote for it, itself among them, has stopped or may vote for it
+pub record MayReset (w : World) (c : ℕ) : Type 0 where
+  pub itself : MayVoteFor w c c
+  pub listed : has (members (w.nodes c)) c ≡ true
+  pub each : (voter name : ℕ) → MayVoteFor w c voter → has (members (w.nodes voter)) name ≡ true → (is_stopped w name ≡ true) ⊎ MayVoteFor w c name
+
+-- what happens then: its place resets with least size 1, and gives up names; all places tick and hear
+pub data IsOfReset (place : ℕ) : Event → Type 0 where
+  resets : (resilience : ℕ) → IsOfReset place (event_at place (act.Reset 1 resilience))
+  gives_up : (name : ℕ) → IsOfReset place (event_at place (act.GiveUp name))
+  spreads : (e : Event) → IsTickOrHearing e → IsOfReset place e
+
+-- its View doesn't fit
+pub record HasNoRoom (m : Node) : Type 0 where
+  pub ballot : Ballot
+  pub last : m.ballot ≡ Some ballot
+  pub base : ℕ
+  pub top_ : ℕ
+  pub answer : ballot.answer ≡ said.Crowded base top_
+
+-- so by one reset there is a view whose members have all that they sent answered, or its View doesn't fit
+abbrev pub ResetEnds : Rules → List Event → ℕ → Type 0
+ResetEnds rules events place = let w = run rules events in HasNoRoom (w.nodes (current w place)) ⊎ (IsDecidedAnew w place × AreAnsweredLater rules events place)
+
+-- of every lawful run in which a member may reset, and nobody who runs asks to join
+abbrev pub ResetsAreAnswered : Type 0
+ResetsAreAnswered = (rules : Rules) (events : List Event) (place resilience : ℕ) → MayFound rules → place < 16 → lawful_front rules events ≡ events
+    → MayReset (run rules events) (current (run rules events) place) → NobodyAsks (run rules events)
+    → (more : List Event) × All (IsOfReset place) more × ResetEnds rules (events ++ more) place
