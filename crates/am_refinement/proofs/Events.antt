@@ -10,9 +10,10 @@ use Rattle.am_refinement.proofs.Names.{name_stands_with_same_group, views_stand_
 
 -- ---- a record more
 
-recorded : (w : World) (e : Event) (o : Outcome) (s : Group) → Stands w s → Stands (world_with_record w e o) s
+-- an event that changes no node adds just this
+pub record_keeps_group_standing : (w : World) (e : Event) (o : Outcome) (s : Group) → Stands w s → Stands (world_with_record w e o) s
 unfolding world_with_record
-recorded w e o s h = record {
+record_keeps_group_standing w e o s h = record {
   each = λ i few. name_stands_with_same_group w (world_with_record w e o) i (w.nodes i) (s.node i) refl refl (h.each i few);
   fronts = h.fronts;
   views = views_stand_if_lines_stay w (world_with_record w e o) s.views refl (λ stamp. refl) h.views;
@@ -71,15 +72,12 @@ stopped_more w v name s nodes group_ views stopped h =
 
 -- ---- each event that no node does
 
-pub idle_event_keeps_group_standing : (w : World) (e : Event) (o : Outcome) (s : Group) → Stands w s → EventStands (world_with_record w e o) s
-idle_event_keeps_group_standing w e o s h = no_move (recorded w e o s h)
-
 pub stop_keeps_group_standing : (w : World) (e : Event) (o : Outcome) (name : ℕ) (s : Group) → Stands w s
     → EventStands (world_with_record (record w { stopped = w.stopped ++ name ∷ [] }) e o) s
 stop_keeps_group_standing w e o name s h =
     let v = record w { stopped = w.stopped ++ name ∷ [] } in
     let next = group_with_node s name (record (s.node name) { stopped = true }) in
-    stop name (recorded v e o next (stopped_more w v name s refl refl refl refl h))
+    stop name (record_keeps_group_standing v e o next (stopped_more w v name s refl refl refl refl h))
 
 -- the name of a place that returns stops, if it hadn't
 same_lives : (w v : World) (s : Group) → v.nodes ≡ w.nodes → v.group ≡ w.group → v.views ≡ w.views → v.stopped ≡ w.stopped → Stands w s → Stands v s
@@ -107,7 +105,7 @@ return_keeps_group_standing w e o place s h =
         (stopped_more w (after_ (w.stopped ++ current w place ∷ [])) (current w place) s refl refl refl refl h)
 
 pub idle_events_keep_group_standing : EventsStand
-idle_events_keep_group_standing w e v s (idles o idle) is h = idle_event_keeps_group_standing w e o s h
+idle_events_keep_group_standing w e v s (idles o idle) is h = no_move (record_keeps_group_standing w e o s h)
 idle_events_keep_group_standing w e v s (stops runs) is h = stop_keeps_group_standing w e said.Stopped (acting_name w e) s h
 idle_events_keep_group_standing w e v s (returns place at gone more) is h = return_keeps_group_standing w e (said.Returned (w.lives place + 1)) place s h
 idle_events_keep_group_standing w e v s (steps c step runs cause effect) is h = absurd is
