@@ -105,9 +105,7 @@ module _ (P : World → Group → Type 0) (rules : Rules) (keeps : PropertyIsKep
       let first = founders_decided rules in
       let is_marked : s.to.views.complete (key_of_stamp first.stamp) ≡ true = ap (λ f. f (key_of_stamp first.stamp)) s.marks ∙ own_key rules in
       record {
-        to = s.to;
-        follows = s.follows;
-        shaped = s.shaped;
+        followed = record { to = s.to; follows = s.follows; shaped = s.shaped; is = begins s.to s.follows };
         tied = record {
           index = 0;
           noted = refl;
@@ -117,7 +115,6 @@ module _ (P : World → Group → Type 0) (rules : Rules) (keeps : PropertyIsKep
         };
         became = λ d c. (let same = only rules d c in
             record { marked_ = ap (λ (x : Decided). s.to.views.complete (key_of_stamp x.stamp)) (sym same) ∙ is_marked; index = 0; there = ap Some same });
-        is = begins s.to s.follows;
       }
 
   held_of : (n : ℕ) (events : List Event) → length events ≡ n → broken_at rules events ≡ None → HeldUpToFront P rules events

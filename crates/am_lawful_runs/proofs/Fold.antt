@@ -4,9 +4,9 @@ use Rattle.am_lawful_runs.proofs.Words.{Some, None, slice_get, refl, sym, ap, �
 use Rattle.am_lawful_runs.proofs.Words.{take-append-le, take_all, list_any-append, slice_get-get_or, Rules, MayFound, Event, Record, Outcome, key_of_stamp, Group}
 use Rattle.am_lawful_runs.proofs.Words.{count_of_passing_names, Move, ViewCompletes, counts_for, Node, lowest_name_or_zero, StepResult, Decided, World, start, current, is_stopped}
 use Rattle.am_lawful_runs.proofs.Words.{views_after, world_with_record, world_with_step, world_with_next_life, happens, run, is_complete, is_lawful, Watch, watch_start, watch_run}
-use Rattle.am_lawful_runs.proofs.Words.{greatest_complete, broken_at, BecameComplete, split_on_bool, both_of_and, watched_is_run, Cause, acting_name, IsIdle, EventHappens, idles}
+use Rattle.am_lawful_runs.proofs.Words.{greatest_complete, broken_at, BecameComplete, split_on_bool, both_of_and, watched_is_run, Cause, Effect, IsCause, acting_name, IsIdle, EventHappens, idles}
 use Rattle.am_lawful_runs.proofs.Words.{returns, steps, events_have_effects, item_of_index_has_property, slice_get_of_front, runs_keep_what_events_keep, NotedViewStandsInLog, WorldNotesViewsOnce, events_note_views_once, start_notes_views_once, Moves}
-use Rattle.am_lawful_runs.proofs.Words.{none, moves, Grows, EventStands, no_move, stop, idle_event_keeps_group_standing, stop_keeps_group_standing, return_keeps_group_standing, Following, StepsMove}
+use Rattle.am_lawful_runs.proofs.Words.{none, moves, Grows, EventStands, no_move, stop, record_keeps_group_standing, stop_keeps_group_standing, return_keeps_group_standing, Following, StepsMove, Stands, false, group_grows_to_itself}
 use Rattle.am_abstract_group.specs.Moves.{numbers}
 use Rattle.am_group_defs.specs.World as worlds
 use Rattle.am_step_laws.specs.Events as event
@@ -134,13 +134,25 @@ pub record ViewBecameCompleteInGroup (w : World) (s : Group) (d : Decided) : Typ
   pub index : ℕ
   pub there : slice_get w.views index ≡ Some d
 
-pub record HeldUpToFront (P : World → Group → Type 0) (rules : Rules) (events : List Event) : Type 0 where
+-- a group that follows a world, of which this is so
+pub record IsFollowed (P : World → Group → Type 0) (rules : Rules) (w : World) : Type 0 where
   pub to : Group
-  pub follows : Following rules (run rules events) to
+  pub follows : Following rules w to
   pub shaped : ListsAreShaped to
+  pub is : P w to
+
+-- up to the lawful front, its marks are the views that became complete
+pub record HeldUpToFront (P : World → Group → Type 0) (rules : Rules) (events : List Event) : Type 0 where
+  pub followed : IsFollowed P rules (run rules events)
+  pub open followed use *
   pub tied : WatchIsTiedToGroup (watch_run rules events) to
   pub became : (d : Decided) → BecameComplete rules events d → ViewBecameCompleteInGroup (run rules events) to d
-  pub is : P (run rules events) to
+
+-- what an event comes to by which nobody stops
+pub record AfterSpared (P : World → Group → Type 0) (rules : Rules) (w v : World) (s : Group) : Type 0 where
+  pub followed : IsFollowed P rules v
+  pub same : followed.to.views.complete ≡ s.views.complete
+  pub noted : (k : ℕ) (d : Decided) → slice_get w.views k ≡ Some d → slice_get v.views k ≡ Some d
 
 -- what an event comes to, before views are marked
 record After (P : World → Group → Type 0) (rules : Rules) (w v : World) (s : Group) : Type 0 where
@@ -152,31 +164,48 @@ record After (P : World → Group → Type 0) (rules : Rules) (w v : World) (s :
 
 -- ---- each event
 
--- one that no node does
-quiet_after : (P : World → Group → Type 0) (rules : Rules) (keeps : PropertyIsKeptByRuns P rules) (events : List Event) (w v : World) (r : Record) → w ≡ run rules events
-    → (h : HeldUpToFront P rules events) → NodesStayInWorld w v → v.views ≡ w.views → IsIdle r.outcome → v.records ≡ w.records ++ r ∷ [] → EventStands v h.to
-    → After P rules w v h.to
-quiet_after P rules keeps events w v r is h same views idle records (no_move stands) =
+-- one that is no move of the group
+after_event_without_move : (P : World → Group → Type 0) (rules : Rules) → PropertyIsKeptByRuns P rules → (w v : World) (r : Record) (h : IsFollowed P rules w) → NodesStayInWorld w v
+    → v.views ≡ w.views → IsIdle r.outcome → v.records ≡ w.records ++ r ∷ [] → Stands v h.to → AfterSpared P rules w v h.to
+after_event_without_move P rules keeps w v r h same views idle records stands =
     let s = h.to in
-    let before = subst (λ x. Following rules x s) (sym is) h.follows in
     record {
-      to = group_with_entry_given s;
-      ready = group_may_follow_after_given rules v s (group_follows_world_that_stays rules w v s before same stands) h.shaped;
+      followed = record {
+        to = s;
+        follows = group_follows_world_that_stays rules w v s h.follows same stands;
+        shaped = h.shaped;
+        is = keeps.by_quiet w v s s (record { stays = same; grows = group_grows_to_itself s; current = refl; chosen = refl; idle = inr (r, idle, records) }) h.is;
+      };
       same = refl;
       noted = λ k d at. ap (λ (l : List Decided). slice_get l k) views ∙ at;
-      is = keeps.by_quiet w v s (group_with_entry_given s) (record { stays = same; grows = group_grows_by_given_entry s; current = refl; chosen = refl; idle = inr (r, idle, records) })
-          (subst (λ x. P x s) (sym is) h.is);
     }
-quiet_after P rules keeps events w v r is h same views idle records (stop i stands) =
+
+-- views may be marked then
+ready_for_marks : (P : World → Group → Type 0) (rules : Rules) → PropertyIsKeptByRuns P rules → (w v : World) (s : Group) → AfterSpared P rules w v s → After P rules w v s
+ready_for_marks P rules keeps w v s a =
+    let t = a.followed.to in
+    record {
+      to = group_with_entry_given t;
+      ready = group_may_follow_after_given rules v t a.followed.follows a.followed.shaped;
+      same = a.same;
+      noted = a.noted;
+      is = keeps.by_quiet v v t (group_with_entry_given t) (record { stays = nodes_stay_in_same_world v; grows = group_grows_by_given_entry t; current = refl; chosen = refl; idle = inl refl })
+          a.followed.is;
+    }
+
+-- one that no node does
+quiet_after : (P : World → Group → Type 0) (rules : Rules) → PropertyIsKeptByRuns P rules → (w v : World) (r : Record) (h : IsFollowed P rules w) → NodesStayInWorld w v → v.views ≡ w.views
+    → IsIdle r.outcome → v.records ≡ w.records ++ r ∷ [] → EventStands v h.to → After P rules w v h.to
+quiet_after P rules keeps w v r h same views idle records (no_move stands) =
+    ready_for_marks P rules keeps w v h.to (after_event_without_move P rules keeps w v r h same views idle records stands)
+quiet_after P rules keeps w v r h same views idle records (stop i stands) =
     let s = h.to in
-    let before = subst (λ x. Following rules x s) (sym is) h.follows in
     record {
       to = group_with_name_stopped s i;
-      ready = group_may_follow_after_stop rules w v s i before h.shaped same stands;
+      ready = group_may_follow_after_stop rules w v s i h.follows h.shaped same stands;
       same = refl;
       noted = λ k d at. ap (λ (l : List Decided). slice_get l k) views ∙ at;
-      is = keeps.by_quiet w v s (group_with_name_stopped s i) (record { stays = same; grows = group_grows_by_stopped_name s i; current = refl; chosen = refl; idle = inr (r, idle, records) })
-          (subst (λ x. P x s) (sym is) h.is);
+      is = keeps.by_quiet w v s (group_with_name_stopped s i) (record { stays = same; grows = group_grows_by_stopped_name s i; current = refl; chosen = refl; idle = inr (r, idle, records) }) h.is;
     }
 
 with_more : (xs ys : List ℕ) (name : ℕ) → list_any (λ x. x == name) xs ≡ true → list_any (λ x. x == name) (xs ++ ys) ≡ true
@@ -207,38 +236,52 @@ views_stay : (views : List Decided) (m n : Node) (k : ℕ) (d : Decided) → sli
 views_stay views m n k d at = split_on_bool (worlds.step_decides_view m n) (λ t. rw t (slice_get_of_front views (worlds.last_view_of n ∷ []) k d at)) (λ f. rw f at)
 
 module _ (P : World → Group → Type 0) (rules : Rules) (keeps : PropertyIsKeptByRuns P rules) (moving : StepsMove) (may : MayFound rules) where
-  after_event : (events : List Event) (e : Event) (v : World) → EventHappens (run rules events) e v → v ≡ happens (run rules events) e → (h : HeldUpToFront P rules events)
-      → After P rules (run rules events) v h.to
-  unfolding world_with_record world_with_step
-  after_event events e v (idles o idle) is h =
+  -- one that changes no node
+  pub after_idle_event : (events : List Event) (e : Event) (o : Outcome) → IsIdle o → (h : IsFollowed P rules (run rules events))
+      → AfterSpared P rules (run rules events) (world_with_record (run rules events) e o) h.to
+  unfolding world_with_record
+  after_idle_event events e o idle h =
       let w = run rules events in
-      quiet_after P rules keeps events w v (worlds.record_of w e o []) refl h (stays_idle w e o) refl idle refl (idle_event_keeps_group_standing w e o h.to h.follows.stands)
-  after_event events e v (event.stops runs) is h =
-      let w = run rules events in
-      quiet_after P rules keeps events w v _ refl h (stays_stop w e _ (acting_name w e)) refl tt refl (stop_keeps_group_standing w e _ (acting_name w e) h.to h.follows.stands)
-  after_event events e v (returns place at gone more) is h =
-      let w = run rules events in
-      quiet_after P rules keeps events w v _ refl h (stays_return w e _ place) refl tt refl (return_keeps_group_standing w e _ place h.to h.follows.stands)
-  after_event events e v (steps c step runs cause effect) is h =
+      after_event_without_move P rules keeps w (world_with_record w e o) (worlds.record_of w e o []) h (stays_idle w e o) refl idle refl (record_keeps_group_standing w e o h.to h.follows.stands)
+
+  -- a step of a name
+  pub after_step : (events : List Event) (e : Event) (c : Cause) (step : StepResult) → (let w = run rules events in let i = acting_name w e in is_stopped w i ≡ false → IsCause w i e.act c
+      → Effect (w.nodes i) c step → world_with_step w e i step ≡ happens w e → (h : IsFollowed P rules w) → AfterSpared P rules w (world_with_step w e i step) h.to)
+  unfolding world_with_step
+  after_step events e c step runs cause effect is h =
       let w = run rules events in
       let s = h.to in
       let f = moving rules events e c step s may runs cause effect (sym is) h.follows in
       let shaped = lists_are_shaped_after_moves rules.founders (lowest_name_or_zero rules.founders) rules.resilience s f.to h.follows.group f.path h.shaped in
       record {
-        to = group_with_entry_given f.to;
-        ready = group_may_follow_after_given rules v f.to f.is shaped;
+        followed = record {
+          to = f.to;
+          follows = f.is;
+          shaped = shaped;
+          is = keeps.by_step (record {
+            step_ = record { may = may; runs = runs; cause = cause; effect = effect; is = is };
+            old = h.follows;
+            path = f.path;
+            grows = f.grows;
+            shaped = shaped;
+            new = f.is;
+          }) h.is;
+        };
         same = complete_marks_stay_by_moves f.path;
         noted = λ k d at. views_stay w.views (w.nodes (acting_name w e)) step.node k d at;
-        is = keeps.by_quiet v v f.to (group_with_entry_given f.to) (record { stays = nodes_stay_in_same_world v; grows = group_grows_by_given_entry f.to; current = refl; chosen = refl; idle = inl refl })
-            (keeps.by_step (record {
-              step_ = record { may = may; runs = runs; cause = cause; effect = effect; is = is };
-              old = h.follows;
-              path = f.path;
-              grows = f.grows;
-              shaped = shaped;
-              new = f.is;
-            }) h.is);
       }
+
+  after_event : (events : List Event) (e : Event) (v : World) → EventHappens (run rules events) e v → v ≡ happens (run rules events) e → (h : IsFollowed P rules (run rules events))
+      → After P rules (run rules events) v h.to
+  unfolding world_with_record
+  after_event events e v (idles o idle) is h = ready_for_marks P rules keeps (run rules events) v h.to (after_idle_event events e o idle h)
+  after_event events e v (event.stops runs) is h =
+      let w = run rules events in
+      quiet_after P rules keeps w v _ h (stays_stop w e _ (acting_name w e)) refl tt refl (stop_keeps_group_standing w e _ (acting_name w e) h.to h.follows.stands)
+  after_event events e v (returns place at gone more) is h =
+      let w = run rules events in
+      quiet_after P rules keeps w v _ h (stays_return w e _ place) refl tt refl (return_keeps_group_standing w e _ place h.to h.follows.stands)
+  after_event events e v (steps c step runs cause effect) is h = ready_for_marks P rules keeps (run rules events) v h.to (after_step events e c step runs cause effect is h)
 
   -- one event more
   pub held_after_next_event : (events : List Event) (e : Event) → HeldUpToFront P rules events → broken_at rules (events ++ e ∷ []) ≡ None → HeldUpToFront P rules (events ++ e ∷ [])
@@ -251,7 +294,7 @@ module _ (P : World → Group → Type 0) (rules : Rules) (keeps : PropertyIsKep
       let here : run rules all ≡ happens w e = run_of_pushed_event rules events e in
       let there : new.world ≡ run rules all = watched_is_run rules all in
       let was_world : old.world ≡ w = watched_is_run rules events in
-      let a = after_event events e (happens w e) (events_have_effects w e) refl h in
+      let a = after_event events e (happens w e) (events_have_effects w e) refl h.followed in
       let b : After P rules old.world new.world h.to = subst (λ x. After P rules x new.world h.to) (sym was_world)
       (subst (λ x. After P rules w x h.to) (sym (there ∙ here)) a) in
       let ok = watch_unbroken_before_event old e (ap (λ (x : Watch). x.broken) (sym pushed) ∙ whole) in
@@ -262,9 +305,13 @@ module _ (P : World → Group → Type 0) (rules : Rules) (keeps : PropertyIsKep
       let m = mark rules old new h.to b.to b.ready b.same h.tied small b.noted best lawful in
       let marks = marks_now new.world b.to in
       record {
-        to = group_with_complete_marks b.to marks;
-        follows = subst (λ x. Following rules x (group_with_complete_marks b.to marks)) there (marked_group_follows_world rules new.world b.to marks b.ready m.may);
-        shaped = group_is_shaped_after_marks b.to marks b.ready.shaped;
+        followed = record {
+          to = group_with_complete_marks b.to marks;
+          follows = subst (λ x. Following rules x (group_with_complete_marks b.to marks)) there (marked_group_follows_world rules new.world b.to marks b.ready m.may);
+          shaped = group_is_shaped_after_marks b.to marks b.ready.shaped;
+          is = subst (λ x. P x (group_with_complete_marks b.to marks)) there (keeps.by_quiet new.world new.world b.to (group_with_complete_marks b.to marks)
+              (record { stays = nodes_stay_in_same_world new.world; grows = group_grows_by_marks b.to marks; current = refl; chosen = refl; idle = inl refl }) b.is);
+        };
         tied = m.tied;
         became = λ d c. became_now rules events e d marks
             (λ was. record {
@@ -279,8 +326,6 @@ module _ (P : World → Group → Type 0) (rules : Rules) (keeps : PropertyIsKep
               there = at;
             })
             (h.became d) c;
-        is = subst (λ x. P x (group_with_complete_marks b.to marks)) there (keeps.by_quiet new.world new.world b.to (group_with_complete_marks b.to marks)
-            (record { stays = nodes_stay_in_same_world new.world; grows = group_grows_by_marks b.to marks; current = refl; chosen = refl; idle = inl refl }) b.is);
       }
     where
       small_run : (rules : Rules) (events : List Event) → MayFound rules → DecidedStampsAreSmall (run rules events).views

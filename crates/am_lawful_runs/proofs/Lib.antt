@@ -8,4 +8,5 @@ pub mod Ready
 pub mod Greatest
 pub mod Fold
 pub mod Begun
+pub mod Spared
 pub mod Ways

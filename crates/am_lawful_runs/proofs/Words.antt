@@ -77,7 +77,7 @@ pub use Rattle.am_refinement.proofs.NodeKeeping.Begun.{first_nodes_keep_at_start
 pub use Rattle.am_refinement.proofs.Branches.{branches_begin_chain, is_up_of_same_flags}
 pub use Rattle.am_refinement.proofs.Onward.{group_run_is_kept, group_goes_on_by_move}
 pub use Rattle.am_refinement.proofs.Start.{group_stands_at_start}
-pub use Rattle.am_refinement.proofs.{Pieces.plain_entry_is_not_view as not_view, Changes.image_of_whole_list, Changes.length_of_whole_list, Parts.view_number_le_length, Parts.image_at_of_whole_list, Events.idle_event_keeps_group_standing}
+pub use Rattle.am_refinement.proofs.{Pieces.plain_entry_is_not_view as not_view, Changes.image_of_whole_list, Changes.length_of_whole_list, Parts.view_number_le_length, Parts.image_at_of_whole_list, Events.record_keeps_group_standing}
 pub use Rattle.am_refinement.proofs.Events.{stop_keeps_group_standing, return_keeps_group_standing}
 pub use Rattle.am_refinement.proofs.Membership.Joins.{BecameMemberBy, stayed, joins, founds, new_member_came_by_entry}
 pub use Rattle.am_refinement.proofs.Membership.Joins.{blank_image_is_of_nil}
