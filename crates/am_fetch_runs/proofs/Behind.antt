@@ -1,9 +1,9 @@
 -- Where a lawful run ends, who is a member of a running sequencer's list has promised its view, and may fetch what is missing.
-use Rattle.am_fetch_runs.proofs.Words.{◌≡◌, ℕ, ◌<◌, ◌==◌, true, false, List, None, sym, ap, ◌∙◌, subst, arith, both_of_and, eqb-true, Rules, MayFound, has, Image, Stamp}
-use Rattle.am_fetch_runs.proofs.Words.{stamp_is_less, Event, view, is_member, acts_in_its_view, World, run, is_stopped, broken_at, front_is_lawful, lawful_front}
+use Rattle.am_fetch_runs.proofs.Words.{◌≡◌, ℕ, ◌<◌, ◌==◌, true, false, List, sym, ap, ◌∙◌, subst, arith, both_of_and, eqb-true, Rules, MayFound, has, Image, Stamp}
+use Rattle.am_fetch_runs.proofs.Words.{stamp_is_less, Event, view, is_member, acts_in_its_view, World, run, is_stopped}
 use Rattle.am_fetch_runs.proofs.Words.{lowest_name_or_zero, is_member_at_end, key_of_stamp, stamp_of_list, key_is_less_for_lesser_stamp, name_of_view_is_byte, stamp_eq_gives_equality, member_status_has_log}
-use Rattle.am_fetch_runs.proofs.Words.{member_has_not_departed, image_of_whole_list, Group, chain_of, IsUp, Leads, GroupKeeps, Following, group_run_is_kept, steps_are_group_moves, PropertyIsKeptByRuns, group_follows_unbroken_run}
-use Rattle.am_fetch_runs.proofs.Words.{names_hold_in_runs, RunsInListOf, MembersHavePromised}
+use Rattle.am_fetch_runs.proofs.Words.{member_has_not_departed, image_of_whole_list, Group, chain_of, IsUp, Leads, GroupKeeps, Following, group_run_is_kept, LawfulUntilLastStop, lawful_is_until_last_stop}
+use Rattle.am_fetch_runs.proofs.Words.{names_hold_in_runs, some_group_follows_until_last_stop, RunsInListOf, MembersHavePromised}
 use Rattle.am_base.proofs.Members.{member_of_both_is_between}
 use Rattle.am_step_laws.proofs.Stamps.{unordered_stamps_are_equal}
 use Rattle.std.proofs.lemmas.Bool.{false_from_ne_true}
@@ -82,21 +82,14 @@ module _ (rules : Rules) (w : World) (s : Group) (q name : ℕ) (old : Following
   pub promised_is_view : stamp_is_less (view (w.nodes q)) (w.nodes name).core.promise ≡ false → (w.nodes name).core.promise ≡ view (w.nodes q)
   promised_is_view no_more = unordered_stamps_are_equal (w.nodes name).core.promise (view (w.nodes q)) small_promise small_view promised_no_less no_more
 
--- ---- in every lawful run
+-- ---- in every lawful run, and after it while nobody stops
 
-nothing_kept : (rules : Rules) → PropertyIsKeptByRuns (λ w s. Unit {0}) rules
-nothing_kept rules = assumption
-
-unbroken : (rules : Rules) (events : List Event) → lawful_front rules events ≡ events → broken_at rules events ≡ None
-unbroken rules events lawful = subst (λ es. broken_at rules es ≡ None) lawful (front_is_lawful rules events)
-
--- a group follows it
-pub group_follows_lawful_run : (rules : Rules) (events : List Event) → MayFound rules → lawful_front rules events ≡ events → (s : Group) × Following rules (run rules events) s
-group_follows_lawful_run rules events may lawful =
-    let h = group_follows_unbroken_run (λ w s. Unit {0}) rules (nothing_kept rules) steps_are_group_moves may (λ t f. tt) events (unbroken rules events lawful) in
-    (h.to, h.follows)
+pub members_have_promised_until_last_stop : (rules : Rules) (events : List Event) (q name : ℕ) → MayFound rules → LawfulUntilLastStop rules events → RunsInListOf (run rules events) q name
+    → stamp_is_less ((run rules events).nodes name).core.promise (view ((run rules events).nodes q)) ≡ false
+members_have_promised_until_last_stop rules events q name may until among =
+    let h = some_group_follows_until_last_stop rules events may until in
+    promised_no_less rules (run rules events) h.0 q name h.1 among ((names_hold_in_runs rules events may).who q)
 
 pub members_have_promised : MembersHavePromised
 members_have_promised rules events q name may lawful among =
-    let h = group_follows_lawful_run rules events may lawful in
-    promised_no_less rules (run rules events) h.0 q name h.1 among ((names_hold_in_runs rules events may).who q)
+    members_have_promised_until_last_stop rules events q name may (lawful_is_until_last_stop rules events lawful) among

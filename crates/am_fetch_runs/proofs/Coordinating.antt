@@ -23,7 +23,7 @@ use Rattle.am_step_laws.proofs.Resets.{stamp_eq_of_itself}
 use Rattle.am_step_laws.proofs.Stamps.{unordered_stamps_are_equal}
 use Rattle.am_step_laws.proofs.ViewChanges.{OpenBallotIsPromised}
 use Rattle.std.proofs.lemmas.Option.{slice_get_within}
-use Rattle.std.specs.Prelude.{Option}
+use Rattle.std.specs.Prelude.{Option, ◌*◌}
 use Rattle.am_base.specs.Names.{name_is_less}
 use Rattle.am_model.specs.Calls.{is_unfinished_ballot}
 use Rattle.am_node_defs.proofs.Ends.{image_at_top_is_told}
@@ -36,10 +36,11 @@ use Rattle.am_refinement.proofs.Votes.{open_ballot_is_undecided}
 use Rattle.am_refinement.proofs.Entries.{stamps_of_equal_keys}
 use Rattle.am_refinement.proofs.Parts.{entry_at_of_whole_list}
 use Rattle.std.proofs.lemmas.Bool.{cases_lt, false_from_ne_true}
-use Rattle.am_ballot_laws.specs.Following.{vote_at, BestIs, MayFollow, MayFollowVoter}
+use Rattle.am_ballot_laws.specs.Following.{vote_at, BestIs, MayFollow, MayFollowVoter, LooksAtWhole, fetching_ballot}
+use Rattle.am_fetch_runs.specs.Events.{events_of_exchanges}
 use Rattle.am_fetch_runs.specs.Ballots.{FetchesFromVoter, CoordinatorsMayFollow, FetchingBallotsEnd}
 use Rattle.am_fetch_runs.proofs.Lists.{member_at_end_has_not_left, entry_is_above_start}
-use Rattle.am_fetch_runs.proofs.Behind.{group_follows_lawful_run}
+use Rattle.am_fetch_runs.proofs.Words.{MayFound, Event, LawfulUntilLastStop, lawful_is_until_last_stop, some_group_follows_until_last_stop}
 use Rattle.am_fetch_runs.proofs.Ballots.{ballots_end_in_runs}
 
 -- ---- votes and Views
@@ -372,15 +373,28 @@ module _ (rules : Rules) (w : World) (s : Group) (voter name : ℕ) (b : Ballot)
       turned : (a b : ℕ) → (a == b) ≡ false → (b == a) ≡ false
       turned a b f = grind (arith, nat_tests)
 
--- ---- in every lawful run
+-- ---- in every lawful run, and after it while nobody stops
 
-pub coordinators_may_follow : CoordinatorsMayFollow
-coordinators_may_follow rules events voter name b may lawful h =
-    let f = group_follows_lawful_run rules events may lawful in
+pub coordinators_may_follow_until_last_stop : (rules : Rules) (events : List Event) (voter name : ℕ) (b : Ballot) → MayFound rules → LawfulUntilLastStop rules events
+    → FetchesFromVoter (run rules events) voter name b
+    → MayFollowVoter ((run rules events).nodes voter) ((run rules events).nodes name) (best_vote_for_ballot ((run rules events).nodes name) b).vote b
+coordinators_may_follow_until_last_stop rules events voter name b may until h =
+    let f = some_group_follows_until_last_stop rules events may until in
     let who = (names_hold_in_runs rules events may).who in
     coordinator_may_follow rules (run rules events) f.0 voter name b f.1 h (who name) (run_trims_only_taken rules events may) (who voter)
 
+pub coordinators_may_follow : CoordinatorsMayFollow
+coordinators_may_follow rules events voter name b may lawful h =
+    coordinators_may_follow_until_last_stop rules events voter name b may (lawful_is_until_last_stop rules events lawful) h
+
+pub fetching_ballots_end_until_last_stop : (rules : Rules) (events : List Event) (voter name many : ℕ) (b : Ballot) → MayFound rules → LawfulUntilLastStop rules events
+    → FetchesFromVoter (run rules events) voter name b → top ((run rules events).nodes voter) ≤ top ((run rules events).nodes name) + 8 * many
+    → (n : ℕ) × (n ≤ many) × LooksAtWhole ((run rules events).nodes voter).core.log (fetching_ballot b voter (top ((run rules events).nodes voter)))
+    ((run rules (events ++ events_of_exchanges n (run rules events) voter name)).nodes name)
+fetching_ballots_end_until_last_stop rules events voter name many b may until h far =
+    ballots_end_in_runs rules events voter name many (best_vote_for_ballot ((run rules events).nodes name) b).vote b may h.at_voter h.at_name
+    (coordinators_may_follow_until_last_stop rules events voter name b may until h) far
+
 pub fetching_ballots_end : FetchingBallotsEnd
 fetching_ballots_end rules events voter name many b may lawful h far =
-    ballots_end_in_runs rules events voter name many (best_vote_for_ballot ((run rules events).nodes name) b).vote b may h.at_voter h.at_name
-    (coordinators_may_follow rules events voter name b may lawful h) far
+    fetching_ballots_end_until_last_stop rules events voter name many b may (lawful_is_until_last_stop rules events lawful) h far

@@ -1,9 +1,9 @@
 -- One member after the other comes to a running sequencer's view.
 use Rattle.am_fetch_runs.proofs.Words.{◌≡◌, ℕ, zero, suc, ◌+◌, ◌<◌, ◌==◌, true, false, List, [], ◌++◌, refl, sym, ap, ◌∙◌, subst, arith, nat_tests, split_on_bool, eqb-true}
-use Rattle.am_fetch_runs.proofs.Words.{Rules, MayFound, Event, Log, Node, view, members, image_of_node, image_of_log, stamps_are_equal, has, is_sequencer, World, run, is_stopped, names_hold_in_runs, lawful_front}
+use Rattle.am_fetch_runs.proofs.Words.{Rules, MayFound, Event, Log, Node, view, members, image_of_node, image_of_log, stamps_are_equal, has, is_sequencer, World, run, is_stopped, names_hold_in_runs, LawfulUntilLastStop, lawful_is_until_last_stop, some_group_follows_until_last_stop, StopsNobody}
 use Rattle.am_fetch_runs.proofs.Words.{RunsInListOf, LagsBehind, both_of_and, acts_in_its_view, stamp_eq_gives_equality}
 use Rattle.std.proofs.Common.{All}
-use Rattle.std.proofs.lemmas.List.Elements.{All-nil, All-cons, All-append}
+use Rattle.std.proofs.lemmas.List.Elements.{All-nil, All-cons, All-append, All-weaker}
 use Rattle.am_base.specs.Names.{place_of_name}
 use Rattle.am_group.specs.declared.event.Act.TheVariants as act
 use Rattle.am_group_defs.specs.World.{current, start}
@@ -20,8 +20,8 @@ use Rattle.am_fetch_runs.specs.Events.{exchange_events, hears_new, tick_of, aske
 unfoldable use Rattle.am_fetch_runs.specs.Events.{hears_from, events_of_exchanges}
 use Rattle.am_fetch_runs.specs.Gathering.{MayGather, IsTickOrHearing, ticks, hears, MembersGather}
 use Rattle.am_fetch_runs.proofs.Events.{differs_back, IsThereNow, two_of, exchanges_happen}
-use Rattle.am_fetch_runs.proofs.Lagging.{lagger_is_another, laggers_may_catch_up}
-use Rattle.am_fetch_runs.proofs.Behind.{group_follows_lawful_run, promised_is_view}
+use Rattle.am_fetch_runs.proofs.Lagging.{lagger_is_another, laggers_may_catch_up_until_last_stop}
+use Rattle.am_fetch_runs.proofs.Behind.{promised_is_view}
 use Rattle.am_fetch_runs.proofs.Words.{length, ◌-◌}
 use Rattle.am_group_defs.specs.Settle.{event_at}
 
@@ -40,11 +40,19 @@ exchange_is_of_such w q name =
     (All-append IsTickOrHearing asks gets (hearings_are_such (place_of_name q) (length w.letters + 1) (length (asked w name).letters - length w.letters))
     (hearings_are_such (place_of_name name) (length (asked w name).letters + 1) (length (served w q name).letters - length (asked w name).letters)))
 
-exchanges_are_of_such : (n : ℕ) (w : World) (q name : ℕ) → All IsTickOrHearing (events_of_exchanges n w q name)
+pub exchanges_are_of_such : (n : ℕ) (w : World) (q name : ℕ) → All IsTickOrHearing (events_of_exchanges n w q name)
 unfolding events_of_exchanges
 exchanges_are_of_such zero w q name = All-nil IsTickOrHearing
 exchanges_are_of_such (suc left) w q name =
     All-append IsTickOrHearing (exchange_events w q name) (events_of_exchanges left (world_after_events w (exchange_events w q name)) q name) (exchange_is_of_such w q name) (exchanges_are_of_such left (world_after_events w (exchange_events w q name)) q name)
+
+-- nobody stops by them
+pub ticks_and_hearings_stop_nobody : (events : List Event) → All IsTickOrHearing events → All StopsNobody events
+ticks_and_hearings_stop_nobody events such = All-weaker IsTickOrHearing StopsNobody one events such
+  where
+    one : (e : Event) → IsTickOrHearing e → StopsNobody e
+    one e (ticks place) = refl
+    one e (hears place number) = refl
 
 -- ---- on the way
 
@@ -198,11 +206,11 @@ gather_below (suc k) w v q h =
     record { more = b.more; such = b.such; goes_on = b.goes_on; keeps = b.keeps; spares = b.spares; brings = λ listed. b.brings })
     (λ f. stay w u q (λ x. has (members (w.nodes q)) k ≡ true → Acts w x q k) a.goes_on (λ listed. absurd (cc))))
 
--- ---- in every lawful run
+-- ---- in every lawful run, and after it while nobody stops
 
-on_way_first : (rules : Rules) (events : List Event) (q name : ℕ) → MayFound rules → lawful_front rules events ≡ events → MayGather (run rules events) q
+on_way_first : (rules : Rules) (events : List Event) (q name : ℕ) → MayFound rules → LawfulUntilLastStop rules events → MayGather (run rules events) q
     → (let w = run rules events in has (members (w.nodes q)) name ≡ true → IsOnWay (w.nodes q) w q name)
-on_way_first rules events q name may lawful gathers listed =
+on_way_first rules events q name may until gathers listed =
     let w = run rules events in
     let m = w.nodes name in
     let at = gathers.each name listed in
@@ -218,12 +226,12 @@ on_way_first rules events q name may lawful gathers listed =
     } in
     split_on_bool (stamps_are_equal (view m) (view (w.nodes q)))
     (λ t.
-    let h = group_follows_lawful_run rules events may lawful in
+    let h = some_group_follows_until_last_stop rules events may until in
     acts (acts_along_list rules w h.0 q name h.1 among at.trimmed (who q) (run_trims_only_taken rules events may)
     (promised_is_view rules w h.0 q name h.1 among (who q) at.promised) (stamp_eq_gives_equality (view m) (view (w.nodes q)) t)))
     (λ f.
     let lag : LagsBehind w q name = record { among = among; promised = at.promised; behind = f; trimmed = at.trimmed } in
-    lags (laggers_may_catch_up rules events q name may lawful lag) (record { now = at.current_.now; runs = at.current_.runs; who = who name }) (lagger_is_another w q name lag))
+    lags (laggers_may_catch_up_until_last_stop rules events q name may until lag) (record { now = at.current_.now; runs = at.current_.runs; who = who name }) (lagger_is_another w q name lag))
 
 -- all come to act along the sequencer's list; it leads on, and nobody else does anything
 pub record AllGathered (w v : World) (q : ℕ) : Type 0 where
@@ -232,17 +240,17 @@ pub record AllGathered (w v : World) (q : ℕ) : Type 0 where
   pub spares : SpareOthers w w v q
   pub act : (name : ℕ) → has (members (w.nodes q)) name ≡ true → Acts w v q name
 
-pub members_gather_in_run : (rules : Rules) (events : List Event) (q : ℕ) → MayFound rules → lawful_front rules events ≡ events → MayGather (run rules events) q
+pub members_gather_until_last_stop : (rules : Rules) (events : List Event) (q : ℕ) → MayFound rules → LawfulUntilLastStop rules events → MayGather (run rules events) q
     → (more : List Event) × All IsTickOrHearing more × AllGathered (run rules events) (world_after_events (run rules events) more) q
 unfolding AllActBelow
-members_gather_in_run rules events q may lawful gathers =
+members_gather_until_last_stop rules events q may until gathers =
     let w = run rules events in
     let who = (names_hold_in_runs rules events may).who in
     let first : IsGathering w w q = record {
       leads = gathers.leads;
       lead = record { leads = refl; log = refl; acc = omega arith; taken = omega arith; base = refl };
       there = record { now = gathers.current_.now; runs = gathers.current_.runs; who = who q };
-      each = λ name listed. on_way_first rules events q name may lawful gathers listed;
+      each = λ name listed. on_way_first rules events q name may until gathers listed;
     } in
     let all = gather_below 256 w w q first in
     let lead = all.goes_on.lead in (
@@ -259,7 +267,7 @@ members_gather_in_run rules events q may lawful gathers =
 pub members_gather : MembersGather
 members_gather rules events q may lawful gathers =
     let w = run rules events in
-    let all = members_gather_in_run rules events q may lawful gathers in (
+    let all = members_gather_until_last_stop rules events q may (lawful_is_until_last_stop rules events lawful) gathers in (
       all.0,
       all.1,
       λ name listed. subst (λ (x : World). ActsInViewOf (w.nodes q) (x.nodes name)) (sym (runs_go_on (start rules) events all.0))

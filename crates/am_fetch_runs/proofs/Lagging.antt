@@ -3,7 +3,7 @@ use Rattle.am_fetch_runs.proofs.Words.{◌≡◌, ℕ, ◌+◌, ◌-◌, ◌<◌
 use Rattle.am_fetch_runs.proofs.Words.{eqb-true, View, Rules, Image, Stamp, Entry, blank, log_image_at, log_entry_at, stamps_are_equal, Node, top, view, World, run}
 use Rattle.am_fetch_runs.proofs.Words.{IsBeginningOf, is_member_at_end, key_of_stamp, stamp_of_list, image_of_list, beginning_of_good_is_good, shorter_beginning_begins_longer, view_after_pushed_view, name_of_view_is_byte}
 use Rattle.am_fetch_runs.proofs.Words.{length_of_pushed_list, view_key_grows_along_list, image_of_whole_list, view_number_le_length, image_at_of_whole_list, Group, list_with_chosen_view, current_of, Following}
-use Rattle.am_fetch_runs.proofs.Words.{image_of_node, run_trims_only_taken, names_hold_in_runs, LagsBehind, LaggersMayCatchUp, LaggersReachView}
+use Rattle.am_fetch_runs.proofs.Words.{image_of_node, run_trims_only_taken, names_hold_in_runs, LawfulUntilLastStop, lawful_is_until_last_stop, some_group_follows_until_last_stop, Rules, MayFound, Event, LagsBehind, LaggersMayCatchUp, LaggersReachView}
 use Rattle.am_base.specs.declared.entry.GroupView.{GroupView}
 use Rattle.am_base.specs.Lists.{fits, row_of_name}
 use Rattle.am_base.proofs.Prefixes.{take_length_of_beginning}
@@ -21,7 +21,6 @@ use Rattle.am_fetch_laws.specs.Exchanges.{MayCatchUp}
 use Rattle.am_fetch_laws.proofs.Exchanged.{exchanges_reach_view}
 use Rattle.am_fetch_runs.proofs.Lists.{member_at_end_has_not_left, no_view_is_unfetchable, entry_is_above_start}
 use Rattle.am_fetch_runs.proofs.Behind as behind
-use Rattle.am_fetch_runs.proofs.Behind.{group_follows_lawful_run}
 use Rattle.am_fetch_runs.proofs.Alike.{lists_of_both}
 
 -- who lags behind a sequencer is another
@@ -206,13 +205,17 @@ module _ (rules : Rules) (w : World) (s : Group) (q name : ℕ) (old : Following
       leads_own : (view leader).by ≡ q
       leads_own = (behind.acting rules w s q name old lag.among own).2 ∙ own
 
--- ---- in every lawful run
+-- ---- in every lawful run, and after it while nobody stops
 
-pub laggers_may_catch_up : LaggersMayCatchUp
-laggers_may_catch_up rules events q name may lawful lag =
-    let h = group_follows_lawful_run rules events may lawful in
+pub laggers_may_catch_up_until_last_stop : (rules : Rules) (events : List Event) (q name : ℕ) → MayFound rules → LawfulUntilLastStop rules events → LagsBehind (run rules events) q name
+    → MayCatchUp ((run rules events).nodes q) ((run rules events).nodes name)
+laggers_may_catch_up_until_last_stop rules events q name may until lag =
+    let h = some_group_follows_until_last_stop rules events may until in
     let who = (names_hold_in_runs rules events may).who in
     lagger_may_catch_up rules (run rules events) h.0 q name h.1 lag (who q) (who name) (run_trims_only_taken rules events may)
+
+pub laggers_may_catch_up : LaggersMayCatchUp
+laggers_may_catch_up rules events q name may lawful lag = laggers_may_catch_up_until_last_stop rules events q name may (lawful_is_until_last_stop rules events lawful) lag
 
 pub laggers_reach_view : LaggersReachView
 laggers_reach_view rules events q name many may lawful lag far =

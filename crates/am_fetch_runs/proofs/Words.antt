@@ -7,7 +7,7 @@ pub use Rattle.am_lawful_runs.proofs.Words.{IsGoodList, IsBeginningOf, key_of_st
 pub use Rattle.am_lawful_runs.proofs.Words.{shorter_beginning_begins_longer, member_has_member_row, row_of_place, view_after_pushed_view, name_of_view_is_byte}
 pub use Rattle.am_lawful_runs.proofs.Words.{key_is_less_for_lesser_stamp, view_key_grows_along_list, stamp_eq_gives_equality, member_status_has_log, member_has_not_departed, image_of_whole_list, length_of_whole_list}
 pub use Rattle.am_lawful_runs.proofs.Words.{view_number_le_length, image_at_of_whole_list, Group, chain_of, IsUp, list_with_chosen_view, GroupKeeps, Following, group_run_is_kept, steps_are_group_moves, run_trims_only_taken}
-pub use Rattle.am_lawful_runs.proofs.{Fold.PropertyIsKeptByRuns, Begun.group_follows_unbroken_run}
+pub use Rattle.am_lawful_runs.proofs.Spared.{StopsNobody, LawfulUntilLastStop, lawful_is_until_last_stop, some_group_follows_until_last_stop}
 unfoldable pub use Rattle.am_base.specs.Whole.{is_member_at_end, stamp_of_list}
 pub use Rattle.am_group_defs.specs.Lawful.{lawful_front}
 pub use Rattle.am_base.specs.Whole.{image_of_list}
