@@ -11,8 +11,9 @@ use Rattle.am_abstract_group.specs.Kept as groups
 use Rattle.am_safety.specs.Lists.{LawfulListsFit}
 use Rattle.am_run_laws.proofs.Holds.{accepted_sends_stand_once}
 use Rattle.am_lawful_runs.proofs.Lists.{item_stays_in_longer_list, item_at_in_beginning}
-use Rattle.am_lawful_runs.proofs.Fold.{WorldStaysQuiet, PropertyIsKeptByRuns, ViewBecameCompleteInGroup, HeldUpToFront}
+use Rattle.am_lawful_runs.proofs.Fold.{WorldStaysQuiet, PropertyIsKeptByRuns, ViewBecameCompleteInGroup, IsFollowed, HeldUpToFront}
 use Rattle.am_lawful_runs.proofs.Begun.{group_follows_unbroken_run}
+use Rattle.am_lawful_runs.proofs.Spared.{LawfulUntilLastStop, group_follows_until_last_stop}
 use Rattle.am_lawful_runs.proofs.Greatest.{watch_unbroken_before_event}
 use Rattle.am_safety.proofs.Told.{NamesHaveTakenInTurn}
 use Rattle.am_safety.proofs.Told.{EntryMayBeTaken, entry_taken_is_in_group, same_world_taken_in_turn, idle_record_taken_in_turn, taken_in_turn_after_step, taken_in_turn_at_start}
@@ -124,6 +125,10 @@ module _ (rules : Rules) (may : MayFound rules) where
 
   pub kept_in_unbroken_run : (events : List Event) → broken_at rules events ≡ None → HeldUpToFront HeadlineIsKeptInGroup rules events
   kept_in_unbroken_run events whole = group_follows_unbroken_run HeadlineIsKeptInGroup rules keeps steps_are_group_moves may (λ t f. taken_in_turn_at_start rules) events whole
+
+  -- and further, while nobody stops
+  pub kept_until_last_stop : (events : List Event) → LawfulUntilLastStop rules events → IsFollowed HeadlineIsKeptInGroup rules (run rules events)
+  kept_until_last_stop events until = group_follows_until_last_stop HeadlineIsKeptInGroup rules keeps steps_are_group_moves may (λ t f. taken_in_turn_at_start rules) events until
 
   -- ---- segment
 
