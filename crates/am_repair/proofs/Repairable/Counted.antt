@@ -5,12 +5,12 @@ use Rattle.am_repair.proofs.Repairable.RepairedWords.{◌∙◌, subst, arith, n
 use Rattle.am_repair.proofs.Repairable.RepairedWords.{has, place_of_name, name_of_place_and_life, names_from, names_of, image_after_entries, blank, members_of_image, counting_names_at, Event, view_number_only_grows, IsBeginningOf}
 use Rattle.am_repair.proofs.Repairable.RepairedWords.{IsGoodList, is_member_at_end, stamp_of_list, begins_through_both, beginning_is_no_longer, length_of_pushed_list, beginning_of_good_is_good, image_after_pushed_entry, member_stays_by_push, membership_ends_between, Group}
 use Rattle.am_repair.proofs.Repairable.RepairedWords.{Leads, counting_names_in, list_with_chosen_view, chain_of, current_of, GroupKeeps, Node, top, told_at, members, lowest_name_or_zero, is_sequencer, is_stopped}
-use Rattle.am_repair.proofs.Repairable.RepairedWords.{lawful_front, has_departed, take, World, current, run, fold_append, split_on_bool, names_hold_in_runs, number_bounds_hold_in_runs, trimmed_was_taken_in_runs}
+use Rattle.am_repair.proofs.Repairable.RepairedWords.{has_departed, take, World, current, run, fold_append, split_on_bool, names_hold_in_runs, number_bounds_hold_in_runs, trimmed_was_taken_in_runs}
 use Rattle.am_repair.proofs.Repairable.RepairedWords.{image_after_view_has_it, NameStands, NamesNamed, Following, image_of_whole_list, length_of_whole_list, counted_names_of_named_list, set_name_is_below_256, group_run_is_kept, counted_name_was_member_near}
-use Rattle.am_repair.proofs.Repairable.RepairedWords.{counted_at_of_whole_list, steps_are_group_moves, group_follows_unbroken_run, eqb-true}
+use Rattle.am_repair.proofs.Repairable.RepairedWords.{counted_at_of_whole_list, steps_are_group_moves, LawfulUntilLastStop, group_follows_until_last_stop, eqb-true}
 use Rattle.am_base.specs.Whole.{image_of_list}
 use Rattle.am_repair.proofs.Repairable.Left.{AllLeaversAskedAndGone, accepted, last, leave_stands_once_in_list, leavers_of_runs_asked}
-use Rattle.am_repair.proofs.Repairable.OneList.{lawful_events, current_name_is_below_256, sequencer_leads_in_group}
+use Rattle.am_repair.proofs.Repairable.OneList.{current_name_is_below_256, sequencer_leads_in_group}
 use Rattle.am_repair.proofs.Repairable.Upheld.{AcceptedIsUpheld, accepted_is_upheld_at_start, accepted_is_upheld_by_rules}
 use Rattle.am_repair.specs.Claim.{IsOut}
 use Rattle.am_base.proofs.Prefixes.{take_length_of_beginning}
@@ -95,7 +95,7 @@ all_names P set is h = all_from P 0 set (λ k low some.
 
 -- ---- in every run
 
-module _ (rules : Rules) (events : List Event) (place : ℕ) (may : MayFound rules) (low : place < 16) (lawful : lawful_front rules events ≡ events)
+module _ (rules : Rules) (events : List Event) (place : ℕ) (may : MayFound rules) (low : place < 16) (until : LawfulUntilLastStop rules events)
     (seq : is_sequencer ((run rules events).nodes (current (run rules events) place)) ≡ true) (goes : is_stopped (run rules events) (current (run rules events) place) ≡ false)
     (out : (name : ℕ) → ((run rules events).nodes name).leaving ≡ true → IsOut (run rules events) ((run rules events).nodes (current (run rules events) place)) name) where
   abbrev w : World
@@ -183,6 +183,6 @@ module _ (rules : Rules) (events : List Event) (place : ℕ) (may : MayFound rul
   pub counted_names_are_members : (number : ℕ) → m.core.acc < number → number ≤ top m → (told_at m).view_number ≤ number
       → All (λ name. has (members m) name ≡ true) (names_of (counting_names_at m.core.log number))
   counted_names_are_members number above within view_ =
-      let h = group_follows_unbroken_run AcceptedIsUpheld rules (accepted_is_upheld_by_rules rules) steps_are_group_moves may (λ t f. accepted_is_upheld_at_start rules t may f) events (lawful_events rules events lawful) in
+      let h = group_follows_until_last_stop AcceptedIsUpheld rules (accepted_is_upheld_by_rules rules) steps_are_group_moves may (λ t f. accepted_is_upheld_at_start rules t may f) events until in
       let left = leavers_of_runs_asked rules.founders (lowest_name_or_zero rules.founders) rules.resilience h.to h.follows.group.run in
       all_count h.to left h.follows h.is number above within view_

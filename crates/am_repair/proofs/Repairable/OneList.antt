@@ -1,9 +1,9 @@
 -- Where a run may be repaired, its sequencer has the whole chain, and each member's list begins it.
-use Rattle.am_repair.proofs.Repairable.RepairedWords.{member_has_not_departed, stamp_eq_gives_equality, ◌≡◌, ℕ, ◌<◌, ◌≤◌, ◌==◌, nat_lt, true, false, List, take, None, sym, ap, ◌∙◌, subst}
+use Rattle.am_repair.proofs.Repairable.RepairedWords.{member_has_not_departed, stamp_eq_gives_equality, ◌≡◌, ℕ, ◌<◌, ◌≤◌, ◌==◌, nat_lt, true, false, List, take, sym, ap, ◌∙◌, subst}
 use Rattle.am_repair.proofs.Repairable.RepairedWords.{arith, nat_tests, Rules, MayFound, place_of_name, Event, IsBeginningOf, IsGoodList, is_member_at_end, stamp_of_list, taken_front_begins_list}
-use Rattle.am_repair.proofs.Repairable.RepairedWords.{begins_through_both, Group, IsUp, Leads, chain_of, GroupKeeps, Node, acts_in_its_view, view, is_member, is_sequencer, lowest_name_or_zero, whole, broken_at}
-use Rattle.am_repair.proofs.Repairable.RepairedWords.{MayRepair, World, current, is_stopped, run, split_on_bool, both_of_and, front_is_lawful, member_status_has_log, names_hold_in_runs, Following}
-use Rattle.am_repair.proofs.Repairable.RepairedWords.{image_of_whole_list, group_run_is_kept, steps_are_group_moves, PropertyIsKeptByRuns, group_follows_unbroken_run, IsOneList, RepairableIsOneList, lawful_front, inl, either, has}
+use Rattle.am_repair.proofs.Repairable.RepairedWords.{begins_through_both, Group, IsUp, Leads, chain_of, GroupKeeps, Node, acts_in_its_view, view, is_member, is_sequencer, lowest_name_or_zero, whole}
+use Rattle.am_repair.proofs.Repairable.RepairedWords.{MayRepair, World, current, is_stopped, run, split_on_bool, both_of_and, member_status_has_log, names_hold_in_runs, Following}
+use Rattle.am_repair.proofs.Repairable.RepairedWords.{image_of_whole_list, group_run_is_kept, LawfulUntilLastStop, lawful_is_until_last_stop, some_group_follows_until_last_stop, IsOneList, RepairableIsOneList, inl, either, has}
 use Rattle.am_repair.proofs.Repairable.RepairedWords.{members, run_trims_only_taken, member_row_gives_member, member_has_member_row, was_member_in_longer_list, eqb-true}
 use Rattle.am_refinement.specs.States.{OwnDecided}
 use Rattle.am_refinement.proofs.Sending.{teller_of_own_promise_leads}
@@ -13,11 +13,6 @@ use Rattle.am_repair.proofs.RepairLists.{past_row_is_past}
 use Rattle.am_repair.proofs.Known.Beginning.{node_holds_view_and_accepted, member_of_repair_runs}
 use Rattle.am_base.specs.Whole.{image_of_list}
 use Rattle.am_repair.proofs.Repairable.One.{one_sequencer_runs}
-
--- ---- a group that follows
-
-pub lawful_events : (rules : Rules) (events : List Event) → lawful_front rules events ≡ events → broken_at rules events ≡ None
-lawful_events rules events lawful = subst (λ es. broken_at rules es ≡ None) lawful (front_is_lawful rules events)
 
 -- ---- who is there
 
@@ -128,18 +123,14 @@ module _ (rules : Rules) (w : World) (s : Group) (place : ℕ) (old : Following 
 
 -- ---- in every run
 
--- nothing besides is kept
-nothing_kept : (rules : Rules) → PropertyIsKeptByRuns (λ w s. Unit {0}) rules
-nothing_kept rules = assumption
-
 -- where a sequencer runs
-pub running_sequencer_has_one_list : (rules : Rules) (events : List Event) (place : ℕ) → MayFound rules → place < 16 → lawful_front rules events ≡ events
+pub running_sequencer_has_one_list : (rules : Rules) (events : List Event) (place : ℕ) → MayFound rules → place < 16 → LawfulUntilLastStop rules events
     → (let w = run rules events in let q = current w place in is_sequencer (w.nodes q) ≡ true → is_stopped w q ≡ false → IsOneList w (w.nodes q))
-running_sequencer_has_one_list rules events place may low lawful leads goes =
-    let h = group_follows_unbroken_run (λ w s. Unit {0}) rules (nothing_kept rules) steps_are_group_moves may (λ t f. tt) events (lawful_events rules events lawful) in
-    chain_is_one_list rules (run rules events) h.to place h.follows leads (current_name_is_below_256 rules events place may low) goes
+running_sequencer_has_one_list rules events place may low until leads goes =
+    let h = some_group_follows_until_last_stop rules events may until in
+    chain_is_one_list rules (run rules events) h.0 place h.1 leads (current_name_is_below_256 rules events place may low) goes
     (names_hold_in_runs rules events may).who (λ name member. member_name_is_below_256 rules events name may member) (run_keeps_own_decisions rules events may).each
 
 pub repairable_is_one_list : RepairableIsOneList
 repairable_is_one_list rules events place may low lawful repair =
-    running_sequencer_has_one_list rules events place may low lawful repair.leads (sequencer_of_repair_runs rules events place may low repair)
+    running_sequencer_has_one_list rules events place may low (lawful_is_until_last_stop rules events lawful) repair.leads (sequencer_of_repair_runs rules events place may low repair)

@@ -1,10 +1,10 @@
 -- What a run that may be repaired comes to by a lossless schedule.
 use Rattle.am_repair.proofs.Repairable.RepairedWords.{lawful_front, ◌≡◌, ℕ, ◌<◌, ◌≤◌, ◌==◌, List, ◌++◌, true, subst, sym, arith, nat_tests, Rules, MayFound, has, Event}
 use Rattle.am_repair.proofs.Repairable.RepairedWords.{is_member, top, members, World, start, current, run, settle_events, MayRepair, HasCaughtUp, Repairs, split_on_bool}
-use Rattle.am_repair.proofs.Repairable.RepairedWords.{runs_go_on, trimmed_was_taken_in_runs, steps_are_group_moves, group_follows_unbroken_run, repairs_where_lists_agree, sequencers_trim_known, acting_member_promised_its_view}
+use Rattle.am_repair.proofs.Repairable.RepairedWords.{runs_go_on, trimmed_was_taken_in_runs, steps_are_group_moves, lawful_is_until_last_stop, group_follows_until_last_stop, repairs_where_lists_agree, sequencers_trim_known, acting_member_promised_its_view}
 use Rattle.am_repair.proofs.Repairable.RepairedWords.{one_list_agrees, RepairableTrims, RepairableCounts}
 use Rattle.am_repair.specs.Standing.{Agree}
-use Rattle.am_repair.proofs.Repairable.OneList.{lawful_events, current_name_is_below_256, member_name_is_below_256, listed_member_runs, sequencer_of_repair_runs}
+use Rattle.am_repair.proofs.Repairable.OneList.{current_name_is_below_256, member_name_is_below_256, listed_member_runs, sequencer_of_repair_runs}
 use Rattle.am_repair.proofs.Repairable.OneList.{repairable_is_one_list}
 use Rattle.am_repair.proofs.Repairable.Counted.{counted_names_are_members}
 use Rattle.am_repair.proofs.Repairable.Trims.{GroupTrimsTaken, base_le_taken_of_others}
@@ -12,7 +12,7 @@ use Rattle.am_repair.proofs.Repairable.Kept.{sequencer_trims_taken_at_start, seq
 
 pub repairable_runs_counting_members : RepairableCounts
 repairable_runs_counting_members rules events place may low lawful repair =
-    counted_names_are_members rules events place may low lawful repair.leads (sequencer_of_repair_runs rules events place may low repair) repair.nobody_leaves
+    counted_names_are_members rules events place may low (lawful_is_until_last_stop rules events lawful) repair.leads (sequencer_of_repair_runs rules events place may low repair) repair.nobody_leaves
 
 pub repairable_runs_trimming_taken : RepairableTrims
 repairable_runs_trimming_taken rules events place may low lawful repair name member =
@@ -25,7 +25,8 @@ repairable_runs_trimming_taken rules events place may low lawful repair name mem
     split_on_bool (name == q)
     (λ u. subst (λ k. (w.nodes q).core.base ≤ (w.nodes k).core.taken) (sym_name q name u) (trimmed_was_taken_in_runs rules events q may few))
     (λ f.
-    let h = group_follows_unbroken_run GroupTrimsTaken rules (sequencer_trims_taken_by_runs rules) steps_are_group_moves may (λ t f_. sequencer_trims_taken_at_start rules t f_) events (lawful_events rules events lawful) in
+    let h = group_follows_until_last_stop GroupTrimsTaken rules (sequencer_trims_taken_by_runs rules) steps_are_group_moves may (λ t f_. sequencer_trims_taken_at_start rules t f_) events
+    (lawful_is_until_last_stop rules events lawful) in
     base_le_taken_of_others w q name (h.is.settles q few repair.leads (sequencer_of_repair_runs rules events place may low repair)) small f act.0 act.1
     (listed_member_runs rules events place name may low repair member) (sequencers_trim_known rules events q may few repair.leads name small member))
   where

@@ -48,7 +48,7 @@ pub use Rattle.am_refinement.proofs.{ChainNames.counted_names_of_named_list, Par
 pub use Rattle.am_refinement.proofs.WholeSteps.Starting.{LetterGoesToItsKind, run_letters_go_by_kind, item_at_gives_slice_get}
 pub use Rattle.am_refinement.proofs.WholeSteps.Departed.{step_keeps_departed_node, course_keeps_departed_node}
 pub use Rattle.am_lawful_runs.proofs.Ways.{ChangeByItsKind, change_has_its_kind}
-pub use Rattle.am_lawful_runs.proofs.Begun.{group_follows_unbroken_run}
+pub use Rattle.am_lawful_runs.proofs.Spared.{LawfulUntilLastStop, lawful_is_until_last_stop, group_follows_until_last_stop, some_group_follows_until_last_stop}
 pub use Rattle.am_lawful_runs.proofs.OneStep.{parts_of_one_step, one_step_grows_group, OneStepWithGroup}
 pub use Rattle.am_lawful_runs.proofs.Fold.{PropertyIsKeptByRuns, WorldStaysQuiet}
 pub use Rattle.am_lawful_runs.proofs.Shapes.{ListOfNameGoes}
