@@ -9,9 +9,10 @@ use Rattle.am_group.specs.Journals.{item_at}
 use Rattle.am_node_defs.proofs.Lives.{entry_fits_at_its_number}
 use Rattle.am_lawful_runs.proofs.Lists.{item_stays_in_longer_list}
 use Rattle.am_refinement.proofs.Membership.Joins.{member_row_tells_its_join}
-use Rattle.am_safety.proofs.Holds.{kept_in_unbroken_run}
+use Rattle.am_safety.proofs.Holds.{kept_until_last_stop}
+use Rattle.am_repair.proofs.Repairable.RepairedWords.{LawfulUntilLastStop, lawful_is_until_last_stop}
 use Rattle.am_repair.proofs.Known.Beginning.{repair_of_place}
-use Rattle.am_repair.proofs.Repairable.OneList.{lawful_events, current_name_is_below_256, sequencer_of_repair_runs, chain_of_views_is_whole}
+use Rattle.am_repair.proofs.Repairable.OneList.{current_name_is_below_256, sequencer_of_repair_runs, chain_of_views_is_whole}
 use Rattle.am_repair_takes.proofs.Starts.{Starts}
 
 -- no Join fits that of a name which was a member already
@@ -47,15 +48,15 @@ joined_at list group name zero good member begins at = absurd (cc)
 joined_at list group name (suc k) good member begins at = joined_by list name k good member (item_stays_in_longer_list (suc k) (Join name) begins at)
 
 -- where a sequencer runs whose list has Members alone
-pub starts_in_running_list : (rules : Rules) (events : List Event) (place : ℕ) → MayFound rules → place < 16 → lawful_front rules events ≡ events
+pub starts_in_running_list : (rules : Rules) (events : List Event) (place : ℕ) → MayFound rules → place < 16 → LawfulUntilLastStop rules events
     → (let w = run rules events in let q = current w place in is_sequencer (w.nodes q) ≡ true → is_stopped w q ≡ false
     → ((name : ℕ) → has (members (w.nodes q)) name ≡ true → is_member (w.nodes name).status ≡ true) → Starts (repair_of_place w q) w)
 unfolding Starts is_member_at_end
-starts_in_running_list rules events place may low lawful seq goes listed name there =
+starts_in_running_list rules events place may low until seq goes listed name there =
     let w = run rules events in
     let q = current w place in
     let m = w.nodes q in
-    let h = kept_in_unbroken_run rules may events (lawful_events rules events lawful) in
+    let h = kept_until_last_stop rules may events until in
     let s = h.to in
     let few = current_name_is_below_256 rules events place may low in
     let kept = group_run_is_kept rules.founders (lowest_name_or_zero rules.founders) rules.resilience s h.follows.group in
@@ -80,5 +81,5 @@ starts_in_running_list rules events place may low lawful seq goes listed name th
 pub starts_first : (rules : Rules) (events : List Event) (place : ℕ) → MayFound rules → place < 16 → lawful_front rules events ≡ events → MayRepair (run rules events) place
     → Starts (repair_of_place (run rules events) (current (run rules events) place)) (run rules events)
 starts_first rules events place may low lawful repair =
-    starts_in_running_list rules events place may low lawful repair.leads (sequencer_of_repair_runs rules events place may low repair)
+    starts_in_running_list rules events place may low (lawful_is_until_last_stop rules events lawful) repair.leads (sequencer_of_repair_runs rules events place may low repair)
     (λ name there. (acting_member_promised_its_view ((run rules events).nodes name) (repair.all_act name there).0).0)
