@@ -13,9 +13,10 @@ use Rattle.am_repair_takes.proofs.Rounds.{repaired_by_taking_where_lists_agree}
 use Rattle.am_repair_takes.proofs.Rest.{sends_are_answered_where_lists_agree}
 use Rattle.am_step_laws.proofs.Words.{member_status_has_log}
 use Rattle.std.specs.List.{sum_by}
-use Rattle.am_repair.proofs.RepairWords.{Image, ◌≤◌, false, image_of_node, log_members_at, image_at_top_is_told, false_from_ne_true}
+use Rattle.am_repair.proofs.RepairWords.{Image, ◌≤◌, ◌<◌, false, Rules, MayFound, Event, image_of_node, log_members_at, image_at_top_is_told, false_from_ne_true}
 use Rattle.am_repair_fetches.specs.Later.{MayRepairLater}
-use Rattle.am_repair_fetches.specs.Rest.{SendsAreAnsweredLater, IsDecidedAnew, DecidedViewsAreAnswered}
+use Rattle.am_repair_fetches.specs.Rest.{AreAnsweredLater, SendsAreAnsweredLater, IsDecidedAnew, DecidedViewsAreAnswered}
+use Rattle.am_lawful_runs.proofs.Spared.{LawfulUntilLastStop, lawful_is_until_last_stop}
 use Rattle.am_repair_fetches.proofs.Later.{gathers_later, same_list_later}
 use Rattle.am_repair_fetches.proofs.Unasked.{IsQuieter, quieter_by_events}
 
@@ -23,19 +24,20 @@ use Rattle.am_repair_fetches.proofs.Unasked.{IsQuieter, quieter_by_events}
 same_sums : (f g : ℕ → ℕ) → ((k : ℕ) → f k ≡ g k) → (xs : List ℕ) → sum_by f xs ≡ sum_by g xs
 same_sums f g same xs = ap (λ (h : ℕ → ℕ). sum_by h xs) (λ i k. same k i)
 
-pub sends_are_answered_later : SendsAreAnsweredLater
+pub sends_are_answered_later_until_last_stop : (rules : Rules) (events : List Event) (place : ℕ) → MayFound rules → place < 16 → LawfulUntilLastStop rules events
+    → MayRepairLater (run rules events) place → NobodyAsks (run rules events) → AreAnsweredLater rules events place
 unfolding Starts
-sends_are_answered_later rules events place may low lawful later asks =
+sends_are_answered_later_until_last_stop rules events place may low until later asks =
     let w = run rules events in
     let q = current w place in
-    let h = gathers_later rules events place may low lawful later in
+    let h = gathers_later rules events place may low until later in
     let v = run rules (events ++ h.more) in
     let p = current v place in
     let log = same_list_later rules events place h in
     let quieter : (name : ℕ) → IsQuieter (w.nodes name) (v.nodes name) = λ name. subst (λ (u : World). IsQuieter (w.nodes name) (u.nodes name))
     (sym (runs_go_on (start rules) events h.more)) (quieter_by_events h.more w name h.such) in
     let listed : (name : ℕ) → has (members (w.nodes q)) name ≡ true → is_member (w.nodes name).status ≡ true = λ name there. (later.gathers.each name there).member_ in
-    let first = starts_in_running_list rules events place may low lawful later.gathers.leads later.gathers.current_.runs listed in
+    let first = starts_in_running_list rules events place may low until later.gathers.leads later.gathers.current_.runs listed in
     let same_members : (name : ℕ) → has (members (v.nodes p)) name ≡ has (members (w.nodes q)) name = λ name. ap (λ (l : Log). has (members_of_image (image_of_log l)) name) log in
     let starts : Starts (repair_of_place v p) v = λ name there.
     (let inside = sym (same_members name) ∙ there in
@@ -61,6 +63,10 @@ sends_are_answered_later rules events place may low lawful later asks =
           }),
     )
 
+pub sends_are_answered_later : SendsAreAnsweredLater
+sends_are_answered_later rules events place may low lawful later asks =
+    sends_are_answered_later_until_last_stop rules events place may low (lawful_is_until_last_stop rules events lawful) later asks
+
 -- ---- a view that was just decided
 
 -- who stopped or leaves is out of it
@@ -79,6 +85,11 @@ decided_may_be_repaired_later w place h =
       nobody_leaves = λ name t here number above viewed within. out name number (λ listed. (let stays = h.stays name listed in cc)) viewed within;
     }
 
+pub decided_views_are_answered_until_last_stop : (rules : Rules) (events : List Event) (place : ℕ) → MayFound rules → place < 16 → LawfulUntilLastStop rules events
+    → IsDecidedAnew (run rules events) place → NobodyAsks (run rules events) → AreAnsweredLater rules events place
+decided_views_are_answered_until_last_stop rules events place may low until decided =
+    sends_are_answered_later_until_last_stop rules events place may low until (decided_may_be_repaired_later (run rules events) place decided)
+
 pub decided_views_are_answered : DecidedViewsAreAnswered
 decided_views_are_answered rules events place may low lawful decided =
-    sends_are_answered_later rules events place may low lawful (decided_may_be_repaired_later (run rules events) place decided)
+    decided_views_are_answered_until_last_stop rules events place may low (lawful_is_until_last_stop rules events lawful) decided

@@ -3,7 +3,6 @@ use Rattle.am_repair.proofs.RepairWords.{◌≡◌, ℕ, ◌-◌, ◌≤◌, ◌
 use Rattle.am_repair.proofs.RepairWords.{top_of_log, image_of_log, Image, Entry, Event, Rules, MayFound, Node, top, image_of_node, members, is_member, is_stopped, World, current, run, world_after_events, runs_go_on}
 use Rattle.am_repair.proofs.RepairWords.{run_trims_only_taken, WorldTrimsOnlyTaken, MayRepair, Agree, is_past, HasCaughtUp}
 use Rattle.am_base.specs.Fronts.{counting_names_at}
-use Rattle.am_group_defs.specs.Lawful.{lawful_front}
 use Rattle.am_group_defs.specs.Settle.{settle_events}
 use Rattle.am_group_defs.specs.World.{start}
 use Rattle.am_step_laws.proofs.Rests.{end_refresh_rests_with_list}
@@ -12,17 +11,18 @@ use Rattle.am_repair.specs.Trimmed.{CountsMembers}
 use Rattle.am_repair.proofs.Known.Beginning.{HoldsViewAndAccepted, node_holds_view_and_accepted, repairs_where_lists_agree}
 use Rattle.am_repair.proofs.Known.OneLists.{fits_there, has_left, listed_is, part_in_view_has_last_view}
 use Rattle.am_repair.proofs.Known.ReportedRuns.{known_is_taken}
+use Rattle.am_lawful_runs.proofs.Spared.{LawfulUntilLastStop, lawful_is_until_last_stop}
 use Rattle.am_repair.proofs.Repairable.OneList.{running_sequencer_has_one_list}
 use Rattle.am_repair.proofs.Repairable.Counted.{counted_names_are_members}
 use Rattle.am_fetch_runs.specs.Gathering.{IsTickOrHearing}
-use Rattle.am_fetch_runs.proofs.Gathering.{AllGathered, members_gather_in_run}
+use Rattle.am_fetch_runs.proofs.Gathering.{AllGathered, members_gather_until_last_stop}
 use Rattle.am_repair_fetches.specs.Later.{MayRepairLater, GroupsMayBeRepairedLater, GroupsAreRepairedLater}
 use Rattle.am_repair_fetches.proofs.Leaving.{nobody_leaves_by_events}
 use Rattle.am_repair_fetches.proofs.Gathered as gathered
 
--- ---- in every lawful run that events like these follow
+-- ---- where events like these follow a lawful run, after which nobody stopped
 
-module _ (rules : Rules) (events more : List Event) (place : ℕ) (may : MayFound rules) (low : place < 16) (lawful : lawful_front rules events ≡ events)
+module _ (rules : Rules) (events more : List Event) (place : ℕ) (may : MayFound rules) (low : place < 16) (until : LawfulUntilLastStop rules events)
     (later : MayRepairLater (run rules events) place) (such : All IsTickOrHearing more)
     (g : AllGathered (run rules events) (run rules (events ++ more)) (current (run rules events) place)) where
   abbrev w : World
@@ -56,13 +56,13 @@ module _ (rules : Rules) (events more : List Event) (place : ℕ) (may : MayFoun
   stays name h = subst (λ (x : World). (x.nodes name).leaving ≡ false) (sym (runs_go_on (start rules) events more)) (nobody_leaves_by_events more w name such h)
 
   one : IsOneList w old
-  one = running_sequencer_has_one_list rules events place may low lawful later.gathers.leads later.gathers.current_.runs
+  one = running_sequencer_has_one_list rules events place may low until later.gathers.leads later.gathers.current_.runs
 
   own : IsBeginning w old old
   own = one.each q (later.gathers.each q listed_itself).member_ later.gathers.current_.runs
 
   counts : CountsMembers old
-  counts = counted_names_are_members rules events place may low lawful later.gathers.leads later.gathers.current_.runs later.nobody_leaves
+  counts = counted_names_are_members rules events place may low until later.gathers.leads later.gathers.current_.runs later.nobody_leaves
 
   same_members : (name : ℕ) → has (members new) name ≡ has (members old) name
   same_members name = gathered.same_members w v place later g listed_itself accepted stays name
@@ -151,19 +151,19 @@ pub record Later (rules : Rules) (events : List Event) (place : ℕ) : Type 0 wh
   pub agree : Agree (run rules (events ++ more)) ((run rules (events ++ more)).nodes (current (run rules (events ++ more)) place))
   pub same : current (run rules (events ++ more)) place ≡ current (run rules events) place
 
-pub gathers_later : (rules : Rules) (events : List Event) (place : ℕ) → MayFound rules → place < 16 → lawful_front rules events ≡ events → MayRepairLater (run rules events) place
+pub gathers_later : (rules : Rules) (events : List Event) (place : ℕ) → MayFound rules → place < 16 → LawfulUntilLastStop rules events → MayRepairLater (run rules events) place
     → Later rules events place
-gathers_later rules events place may low lawful later =
+gathers_later rules events place may low until later =
     let w = run rules events in
     let q = current w place in
-    let g = members_gather_in_run rules events q may lawful later.gathers in
+    let g = members_gather_until_last_stop rules events q may until later.gathers in
     let all : AllGathered w (run rules (events ++ g.0)) q = subst (λ (u : World). AllGathered w u q) (sym (runs_go_on (start rules) events g.0)) g.2 in
     record {
       more = g.0;
       such = g.1;
       all = all;
-      may = gathered_may_repair rules events g.0 place may low lawful later g.1 all;
-      agree = gathered_lists_agree rules events g.0 place may low lawful later g.1 all;
+      may = gathered_may_repair rules events g.0 place may low until later g.1 all;
+      agree = gathered_lists_agree rules events g.0 place may low until later g.1 all;
       same = ap (λ (f : ℕ → ℕ). current (record w { lives = f }) place) all.spares.lives;
     }
 
@@ -173,11 +173,11 @@ pub same_list_later : (rules : Rules) (events : List Event) (place : ℕ) (h : L
 same_list_later rules events place h = ap (λ i. ((run rules (events ++ h.more)).nodes i).core.log) h.same ∙ h.all.lead.log
 
 pub groups_may_be_repaired_later : GroupsMayBeRepairedLater
-groups_may_be_repaired_later rules events place may small lawful later = let h = gathers_later rules events place may small lawful later in (h.more, h.such, h.may)
+groups_may_be_repaired_later rules events place may small lawful later = let h = gathers_later rules events place may small (lawful_is_until_last_stop rules events lawful) later in (h.more, h.such, h.may)
 
 pub groups_are_repaired_later : GroupsAreRepairedLater
 groups_are_repaired_later rules events place may small lawful later =
-    let h = gathers_later rules events place may small lawful later in
+    let h = gathers_later rules events place may small (lawful_is_until_last_stop rules events lawful) later in
     let v = run rules (events ++ h.more) in
     let log = same_list_later rules events place h in (
       h.more,
