@@ -8,7 +8,7 @@ pub use Rattle.am_lawful_runs.proofs.Words.{stamp_is_less, stamps_are_equal, Pac
 pub use Rattle.am_lawful_runs.proofs.Words.{Ballot, view, acts_in_its_view, is_member, push_entry, trim_node_up_to, top, lowest_name_or_zero, has_departed, founding_stamp, Plan, StepResult}
 pub use Rattle.am_lawful_runs.proofs.Words.{member_hears_other, packet_length, refresh_at_end, refresh, BallotVerdict, node_with_promise, trim_to_least_taken_by, need_set_without_given_up, need_set_of, is_view}
 pub use Rattle.am_lawful_runs.proofs.Words.{Status, is_unfinished_ballot, lowest_founder_founds, World, is_stopped, world_after_hearing, hear_cut, world_after_act, current, run, start}
-pub use Rattle.am_lawful_runs.proofs.Words.{founders_decided, first_node, Decided, list_with_accepted, packet_heard_by_act, whole, broken_at, front_is_lawful, runs_go_on, IsBeginningOf}
+pub use Rattle.am_lawful_runs.proofs.Words.{founders_decided, first_node, Decided, list_with_accepted, packet_heard_by_act, whole, runs_go_on, IsBeginningOf}
 pub use Rattle.am_lawful_runs.proofs.Words.{IsGoodList, key_of_stamp, begins_through_both, beginning_is_no_longer, length_of_pushed_list, taken_front_begins_list, list_begins_itself, front_begins_append, shorter_beginning_begins_longer, begins_not_longer_is_same}
 pub use Rattle.am_lawful_runs.proofs.Words.{length_of_taken_list, beginning_of_good_is_good, image_after_pushed_entry, member_has_member_row, image_has_sixteen_rows, member_row_gives_member, IsMemberRow, row_of_place, equal_keys_have_equal_names, name_of_view_is_byte, view_key_grows_along_list, view_after_pushed_view}
 pub use Rattle.am_lawful_runs.proofs.Words.{acting_name, WasSentTo, IsCause, steps, Cause, hears, Changes, unchanged, changed, Change, refreshes, settles, numbers}
