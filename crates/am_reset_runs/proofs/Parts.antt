@@ -1,6 +1,6 @@
 -- What is known of a coordinator, its voters and its ballot while votes come.
-use Rattle.am_reset_runs.proofs.Words.{◌≡◌, ◌⊎◌, ℕ, ◌==◌, ◌<◌, true, false, Some, None, Node, Ballot, Stamp, stamp_is_less, has, top, view, members, refresh_at_end, World, is_stopped, next_stamp}
-use Rattle.am_reset_runs.proofs.Words.{Vote, vote_is_less, own_vote, decide, MayVoteFor}
+use Rattle.am_reset_runs.proofs.Words.{◌≡◌, ◌⊎◌, ℕ, ◌==◌, ◌<◌, ◌≤◌, true, false, Some, None, Node, Ballot, Stamp, stamp_is_less, has, top, view, members, refresh_at_end, World, is_stopped, is_member, next_stamp}
+use Rattle.am_reset_runs.proofs.Words.{Vote, vote_is_less, own_vote, decide, need_set_of, need_set_without_given_up, HasLearned, IsCurrent, MayVoteFor}
 
 -- the stamp of its ballot
 abbrev pub stamp_of_reset : World → ℕ → Stamp
@@ -43,3 +43,32 @@ pub record VotesCome (w v : World) (c : ℕ) (m : Node) (b : Ballot) : Type 0 wh
   pub stopped : v.stopped ≡ w.stopped
   pub alike : (name : ℕ) → (name == c) ≡ false → b.votes name ≡ None → v.nodes name ≡ w.nodes name
   pub looked : v.nodes c ≡ refresh_at_end (decide m b).node
+
+-- ---- a ballot that has learned all that it needs
+
+-- a name is ready for a view: a current name that runs, a Member that isn't leaving, which has promised this stamp
+pub record IsReady (v : World) (name : ℕ) (stamp : Stamp) : Type 0 where
+  pub current_ : IsCurrent v name
+  pub member_ : is_member (v.nodes name).status ≡ true
+  pub stays : (v.nodes name).leaving ≡ false
+  pub promise : (v.nodes name).core.promise ≡ stamp
+
+-- A coordinator that runs and isn't leaving has looked at this ballot with this node, a Member that had learned all. Whoever else is needed and
+-- wasn't given up is ready.
+pub record HasLearnedAll (v : World) (c : ℕ) (m : Node) (b : Ballot) : Type 0 where
+  pub current_ : IsCurrent v c
+  pub stays : (v.nodes c).leaving ≡ false
+  pub who : m.core.who ≡ c
+  pub listed : is_member m.status ≡ true
+  pub promise : m.core.promise ≡ b.stamp
+  pub own : b.stamp.by ≡ c
+  pub least_ : b.least ≡ 1
+  pub kept : b.given_up c ≡ false
+  pub learned : HasLearned m b
+  pub ready : (name : ℕ) → has (need_set_without_given_up b (need_set_of m b)) name ≡ true → (name == c) ≡ false → IsReady v name b.stamp
+  pub looked : v.nodes c ≡ refresh_at_end (decide m b).node
+
+-- each Member that runs and isn't leaving has taken what this name trims at the end of a step
+abbrev pub TrimsTaken : World → ℕ → Type 0
+TrimsTaken v c = (name : ℕ) → IsCurrent v name → is_member (v.nodes name).status ≡ true → (v.nodes name).leaving ≡ false
+    → (refresh_at_end (v.nodes c)).core.base ≤ (v.nodes name).core.taken

@@ -11,6 +11,7 @@ pub use Rattle.am_model.specs.Ballots.{own_vote, need_set_of, is_waited_for, nee
 unfoldable pub use Rattle.am_model.specs.Ballots.{decide, best_vote_for_ballot}
 pub use Rattle.am_model.specs.Node.{names_that_pass}
 pub use Rattle.am_refinement.proofs.Votes.{given_vote_is_some, unawaited_name_has_voted, needed_name_is_not_awaited, those_in}
+pub use Rattle.am_step_laws.specs.Looks.{HasLearned}
 pub use Rattle.am_ballot_laws.specs.Voting.{Coordinates, WaitsForVoter, voted}
 pub use Rattle.am_fetch_runs.specs.Gathering.{IsCurrent, IsTickOrHearing}
 pub use Rattle.am_reset_runs.specs.Resetting.{MayVoteFor, MayReset, IsOfReset, resets, gives_up, spreads, HasNoRoom, ResetEnds, ResetsAreAnswered}
