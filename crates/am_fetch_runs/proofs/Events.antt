@@ -79,7 +79,7 @@ moved_in_turn u v x i n m more further a b = record {
 }
 
 -- who is there stays there
-there_after : (u v : World) (i j : ℕ) (n : Node) (more : List Letter) → OneMoved u v i n more → n.core.who ≡ i → IsThereNow u j → IsThereNow v j
+pub there_after : (u v : World) (i j : ℕ) (n : Node) (more : List Letter) → OneMoved u v i n more → n.core.who ≡ i → IsThereNow u j → IsThereNow v j
 there_after u v i j n more a mine h = record {
   now = ap (λ (f : ℕ → ℕ). current (record u { lives = f }) (place_of_name j)) a.lives ∙ h.now;
   runs = ap (λ (xs : List ℕ). is_stopped (record u { stopped = xs }) j) a.stopped ∙ h.runs;

@@ -1,2 +1,4 @@
 mod Words
 pub mod Parts
+mod Counts
+pub mod Voting

@@ -1,5 +1,5 @@
 -- The words of this crate's proofs, of the crates and definitions that they come from.
-pub use Rattle.am_repair.proofs.RepairWords.{◌≡◌, inl, inr, ◌⊎◌, ℕ, zero, suc, ◌+◌, ◌-◌, ◌<◌, ◌≤◌, ◌==◌, ◌&&◌, not, nat_lt, Bool, true, false, if◌then◌else◌}
+pub use Rattle.am_repair.proofs.RepairWords.{◌≡◌, ◌≢◌, inl, inr, ◌⊎◌, ℕ, zero, suc, ◌+◌, ◌-◌, ◌<◌, ◌≤◌, ◌==◌, ◌&&◌, not, nat_lt, Bool, true, false, if◌then◌else◌}
 pub use Rattle.am_repair.proofs.RepairWords.{List, [], ◌∷◌, ◌++◌, length, slice_index, list_any, count_by, count_by_of_cons, Option, Some, None, refl, sym, ap, ◌∙◌, subst, arith, nat_tests}
 pub use Rattle.am_repair.proofs.RepairWords.{All, All-nil, All-cons, All-append, split_on_bool, eqb-true, Rules, MayFound, place_of_name, life_of_name, has, size, Stamp, stamp_is_less, stamps_are_equal}
 pub use Rattle.am_repair.proofs.RepairWords.{Log, top_of_log, image_of_log, members_of_image, Image, Event, Node, Ballot, BallotVerdict, top, view, members, image_of_node, is_member, next_stamp, node_with_promise}
