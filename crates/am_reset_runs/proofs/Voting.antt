@@ -1,10 +1,11 @@
 -- One vote after the other comes, or a name that has stopped is given up, until nobody is waited for.
 use Rattle.am_reset_runs.proofs.Words.{◌≡◌, ◌≢◌, inl, inr, ◌⊎◌, ℕ, zero, suc, ◌+◌, ◌<◌, ◌≤◌, ◌==◌, not, nat_lt, true, false, List, [], ◌∷◌, ◌++◌, count_by, Option, Some, None, is_some, refl, sym, ap, ◌∙◌, subst, arith, nat_tests}
 use Rattle.am_reset_runs.proofs.Words.{All, All-nil, All-cons, All-append, split_on_bool, eqb-true, place_of_name, has, size, Stamp, stamp_is_less, stamps_are_equal, Log, top_of_log, image_of_log, members_of_image, Event}
-use Rattle.am_reset_runs.proofs.Words.{Node, Ballot, top, view, members, is_member, node_with_promise, step, refresh_at_end, end_refresh_rests_with_list, World, current, is_stopped, world_with_step, happens, runs_go_on, event_at}
+use Rattle.am_reset_runs.proofs.Words.{Node, Ballot, top, view, members, is_member, node_with_promise, step, refresh_at_end, end_refresh_rests_with_list, World, current, is_stopped, world_with_step, runs_go_on, event_at}
 use Rattle.am_reset_runs.proofs.Words.{Vote, NamedVote, vote_is_less, own_vote, need_set_of, is_waited_for, ballot_with_answer, ballot_with_vote, ballot_without_voter, decide, best_vote_for_ballot, names_that_pass, those_in}
 use Rattle.am_reset_runs.proofs.Words.{Coordinates, WaitsForVoter, voted, IsCurrent, MayVoteFor, MayReset, IsOfReset, gives_up, spreads}
-unfoldable use Rattle.am_group_defs.specs.World.{world_after_events}
+use Rattle.am_group_defs.specs.World.{world_after_give_up}
+unfoldable use Rattle.am_group_defs.specs.World.{happens, world_after_events}
 use Rattle.am_base.specs.declared.event.NodeEvent.TheVariants as does
 use Rattle.am_base.specs.declared.outcome.Outcome.TheVariants as said
 use Rattle.am_group.specs.declared.event.Act.TheVariants as act
@@ -33,8 +34,25 @@ fewer_rounds_differ a b low = grind (arith, nat_tests)
 more_rounds_are_not_less : (a b : Stamp) → a.round < b.round → stamp_is_less b a ≡ false
 more_rounds_are_not_less a b low = grind (arith, nat_tests)
 
+turned : (a b : ℕ) → (a == b) ≡ false → (b == a) ≡ false
+turned a b f = grind (arith, nat_tests)
+
 itself_is_equal : (k : ℕ) → (k == k) ≡ true
 itself_is_equal k = grind (arith, nat_tests)
+
+-- who has voted has voted as long as its node is the same
+still_voted : {w v x : World} {c name : ℕ} {vote : Vote} → HasVoted w v c name vote → x.nodes name ≡ v.nodes name → HasVoted w x c name vote
+still_voted h same = record {
+  may = h.may;
+  other = h.other;
+  view_ = h.view_;
+  top_ = h.top_;
+  members_ = h.members_;
+  log = ap (λ (m : Node). m.core.log) same ∙ h.log;
+  promise = ap (λ (m : Node). m.core.promise) same ∙ h.promise;
+  status = ap (λ (m : Node). m.status) same ∙ h.status;
+  leaving = ap (λ (m : Node). m.leaving) same ∙ h.leaving;
+}
 
 -- ---- what a ballot hasn't heard of
 
@@ -135,3 +153,192 @@ module _ (w : World) (c : ℕ) (sound : VotersAreSound w c) (may : MayReset w c)
 
         coordinates_now : Coordinates (v.nodes c) b1
         coordinates_now = subst (λ (x : Node). Coordinates x b1) (sym waits) (coordinates_after_end p b1 coordinates)
+
+        -- what rests of its node
+        still : (x : Node) → x ≡ refresh_at_end p → (x.core.log ≡ (w.nodes c).core.log) × (x.core.who ≡ c) × (x.core.promise ≡ st) × (x.status ≡ (w.nodes c).status) × (x.leaving ≡ (w.nodes c).leaving)
+        still x at = let r = end_refresh_rests_with_list p in (
+          ap (λ (y : Node). y.core.log) at ∙ r.log ∙ h.log,
+          ap (λ (y : Node). y.core.who) at ∙ r.rests.who ∙ h.who,
+          ap (λ (y : Node). y.core.promise) at ∙ r.rests.promise ∙ h.promise,
+          ap (λ (y : Node). y.status) at ∙ r.rests.status ∙ h.status,
+          ap (λ (y : Node). y.leaving) at ∙ r.rests.leaving ∙ h.leaving,
+        )
+
+        -- ---- a name is given up
+
+        module _ (k : ℕ) (goes : is_stopped w k ≡ true) (unvoted : b.votes k ≡ None) (kept : b.given_up k ≡ false) (other : (k == c) ≡ false) where
+          abbrev e : Event
+          e = event_at (place_of_name c) (act.GiveUp k)
+
+          abbrev v1 : World
+          v1 = happens v e
+
+          abbrev b2 : Ballot
+          b2 = ballot_without_voter b1 k
+
+          given_up : v1 ≡ world_with_step v e c (step (v.nodes c) (does.GiveUp k))
+          unfolding happens
+          given_up =
+              let runs = there.runs in
+              let stops : is_stopped v k ≡ true = ap (λ (xs : List ℕ). is_stopped (record w { stopped = xs }) k) h.stopped ∙ goes in
+              ap (λ x. world_after_give_up v e x k) (place_is_of_its_name v c there) ∙ rw (runs, stops) refl
+
+          moved : OneMoved v v1 c (step (v.nodes c) (does.GiveUp k)).node (step (v.nodes c) (does.GiveUp k)).letters
+          moved = subst (λ (x : World). OneMoved v x c (step (v.nodes c) (does.GiveUp k)).node (step (v.nodes c) (does.GiveUp k)).letters) (sym given_up) (stepped v e c (step (v.nodes c) (does.GiveUp k)))
+
+          not_itself : (k == (v.nodes c).core.who) ≡ false
+          not_itself = ap (λ i. k == i) there.who ∙ other
+
+          votes_after : (j : ℕ) (vote : Vote) → b2.votes j ≡ Some vote → HasVoted w v1 c j vote
+          votes_after j vote shown = split_on_bool (j == k)
+              (λ t. absurd (let z : None ≡ Some vote = rw t at shown in cc))
+              (λ f. let was : b.votes j ≡ Some vote = rw f at shown in
+              let x = h.votes j vote was in
+              still_voted x (moved.others j x.other))
+
+          come_after : VotesCome w v1 c (v.nodes c) b2
+          come_after = let s = still (v.nodes c) waits in record {
+            log = s.0;
+            who = s.1;
+            promise = s.2;
+            status = s.3;
+            leaving = s.4;
+            stamp = h.stamp;
+            open_ = refl;
+            least_ = h.least_;
+            votes = votes_after;
+            given = λ j t. split_on_bool (j == k)
+                (λ same. ap (is_stopped w) (eqb-true j k same) ∙ goes)
+                (λ f. h.given j (rw f at t));
+            lives = moved.lives ∙ h.lives;
+            stopped = moved.stopped ∙ h.stopped;
+            alike = λ j f none. moved.others j f ∙ split_on_bool (j == k)
+                (λ t. h.alike j f (ap b.votes (eqb-true j k t) ∙ unvoted))
+                (λ g. h.alike j f (rw g at none));
+            looked = moved.node ∙ give_ups_look (v.nodes c) b1 k coordinates_now not_itself;
+          }
+
+          fewer_after : unheard w b2 < unheard w b
+          fewer_after =
+              let votes_ = count_le_of_weaker_test (λ name. not (is_some (b2.votes name))) (λ name. not (is_some (b.votes name))) 256
+              (λ j t. split_on_bool (j == k)
+              (λ same. ap (λ o. not (is_some o)) (ap b.votes (eqb-true j k same) ∙ unvoted))
+              (λ f. rw f at t)) in
+              let same : (k == k) ≡ true = itself_is_equal k in
+              let ups = count_lt_of_weaker (λ name. not (b2.given_up name)) (λ name. not (b.given_up name)) w.stopped k
+              (λ j t. split_on_bool (j == k)
+              (λ same. ap (λ i. not (b.given_up i)) (eqb-true j k same) ∙ ap not kept)
+              (λ f. rw f at t)) goes (rw same refl) (ap not kept) in
+              omega arith
+
+        -- ---- a name votes
+
+        module _ (k : ℕ) (votes_ : MayVoteFor w c k) (waited : has names k ≡ true) (unvoted : b.votes k ≡ None) (kept : b.given_up k ≡ false) (other : (k == c) ≡ false) where
+          abbrev v2 : World
+          v2 = world_after_events v (events_of_exchanges 1 v k c)
+
+          same_voter : v.nodes k ≡ w.nodes k
+          same_voter = h.alike k other unvoted
+
+          both : BothAreThere v k c
+          both = record {
+            leader = record {
+              now = ap (λ (f : ℕ → ℕ). current (record w { lives = f }) (place_of_name k)) h.lives ∙ votes_.current_.now;
+              runs = ap (λ (xs : List ℕ). is_stopped (record w { stopped = xs }) k) h.stopped ∙ votes_.current_.runs;
+              who = ap (λ (x : Node). x.core.who) same_voter ∙ sound.who k;
+            };
+            lagger = there;
+            differ = other;
+          }
+
+          promise_now : (v.nodes c).core.promise ≡ st
+          promise_now = (still (v.nodes c) waits).2
+
+          waits_for_voter : WaitsForVoter (v.nodes k) (v.nodes c) b1 names
+          waits_for_voter =
+              let who = both.leader.who in
+              let low = promised_below k votes_ in
+              record {
+                coordinates = coordinates_now;
+                answer = refl;
+                among = ap (has names) who ∙ waited;
+                kept = ap b.given_up who ∙ kept;
+                voter = record {
+                  listed = ap (λ (x : Node). is_member x.status) same_voter ∙ votes_.member_;
+                  other = (λ i. (promise_now i).by == who i) ∙ (ap (λ i. i == k) (sound.who c) ∙ turned k c other);
+                  may = (λ i. stamp_is_less (promise_now i) (same_voter i).core.promise) ∙ more_rounds_are_not_less (w.nodes k).core.promise st low;
+                  below = (λ i. stamps_are_equal (view (same_voter i)) (promise_now i)) ∙ fewer_rounds_differ (view (w.nodes k)) st (viewed_below k votes_);
+                };
+              }
+
+          abbrev y : Node
+          y = voted (v.nodes k) (v.nodes c)
+
+          abbrev b3 : Ballot
+          b3 = ballot_with_vote b1 k (own_vote y)
+
+          exchanged : two_of v2 k c ≡ record { sequencer = y; member_ = refresh_at_end (decide (refresh_at_end (v.nodes c)) b3).node }
+          unfolding exchanges
+          exchanged =
+              let who = both.leader.who in
+              (exchanges_happen 1 v k c both).two ∙ voters_are_heard (v.nodes k) (v.nodes c) b1 names waits_for_voter
+              ∙ (λ i. record { sequencer = y; member_ = refresh_at_end (decide (refresh_at_end (v.nodes c)) (ballot_with_vote b1 (who i) (own_vote y))).node })
+
+          voter_after : v2.nodes k ≡ y
+          voter_after = ap (λ (t : TwoNodes). t.sequencer) exchanged
+
+          has_voted : HasVoted w v2 c k (own_vote y)
+          has_voted =
+              let r = end_refresh_rests_with_list (node_with_promise (v.nodes k) (v.nodes c).core.promise) in
+              let log : y.core.log ≡ (w.nodes k).core.log = r.log ∙ ap (λ (x : Node). x.core.log) same_voter in
+              record {
+                may = votes_;
+                other = other;
+                view_ = ap (λ (l : Log). (image_of_log l).view) log;
+                top_ = ap top_of_log log;
+                members_ = ap (λ (l : Log). members_of_image (image_of_log l)) log;
+                log = ap (λ (x : Node). x.core.log) voter_after ∙ log;
+                promise = ap (λ (x : Node). x.core.promise) voter_after ∙ r.rests.promise ∙ promise_now;
+                status = ap (λ (x : Node). x.status) voter_after ∙ r.rests.status ∙ ap (λ (x : Node). x.status) same_voter;
+                leaving = ap (λ (x : Node). x.leaving) voter_after ∙ r.rests.leaving ∙ ap (λ (x : Node). x.leaving) same_voter;
+              }
+
+          come_with_vote : VotesCome w v2 c (refresh_at_end (v.nodes c)) b3
+          come_with_vote =
+              let e1 = exchanges_happen 1 v k c both in
+              let s = still (v.nodes c) waits in
+              let r = end_refresh_rests_with_list (v.nodes c) in
+              record {
+                log = r.log ∙ s.0;
+                who = r.rests.who ∙ s.1;
+                promise = r.rests.promise ∙ s.2;
+                status = r.rests.status ∙ s.3;
+                leaving = r.rests.leaving ∙ s.4;
+                stamp = h.stamp;
+                open_ = refl;
+                least_ = h.least_;
+                votes = λ j vote shown. split_on_bool (j == k)
+                    (λ t. let is : Some (own_vote y) ≡ Some vote = rw t at shown in
+                    let same : own_vote y ≡ vote = cc in
+                    subst (λ i. HasVoted w v2 c i vote) (sym (eqb-true j k t)) (subst (HasVoted w v2 c k) same has_voted))
+                    (λ f. let was : b.votes j ≡ Some vote = rw f at shown in
+                    let x = h.votes j vote was in
+                    still_voted x (e1.others j f x.other));
+                given = h.given;
+                lives = e1.lives ∙ h.lives;
+                stopped = e1.stopped ∙ h.stopped;
+                alike = λ j f none. split_on_bool (j == k)
+                    (λ t. absurd (let z : Some (own_vote y) ≡ None = rw t at none in cc))
+                    (λ g. e1.others j g f ∙ h.alike j f (rw g at none));
+                looked = ap (λ (t : TwoNodes). t.member_) exchanged;
+              }
+
+          fewer_with_vote : unheard w b3 < unheard w b
+          fewer_with_vote =
+              let small = votes_.current_.small in
+              let same : (k == k) ≡ true = itself_is_equal k in
+              let votes_less = count_lt_of_weaker_test (λ name. not (is_some (b3.votes name))) (λ name. not (is_some (b.votes name))) 256 k
+              (λ j t. split_on_bool (j == k)
+              (λ same_. ap (λ o. not (is_some o)) (ap b.votes (eqb-true j k same_) ∙ unvoted))
+              (λ f. rw f at t)) small (rw same refl) (ap (λ o. not (is_some o)) unvoted) in
+              omega arith
