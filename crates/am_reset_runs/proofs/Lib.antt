@@ -2,3 +2,4 @@ mod Words
 pub mod Parts
 mod Counts
 pub mod Voting
+pub mod Votes

@@ -196,7 +196,7 @@ module _ (w : World) (c : ℕ) (sound : VotersAreSound w c) (may : MayReset w c)
               let x = h.votes j vote was in
               still_voted x (moved.others j x.other))
 
-          come_after : VotesCome w v1 c (v.nodes c) b2
+          pub come_after : VotesCome w v1 c (v.nodes c) b2
           come_after = let s = still (v.nodes c) waits in record {
             log = s.0;
             who = s.1;
@@ -218,7 +218,7 @@ module _ (w : World) (c : ℕ) (sound : VotersAreSound w c) (may : MayReset w c)
             looked = moved.node ∙ give_ups_look (v.nodes c) b1 k coordinates_now not_itself;
           }
 
-          fewer_after : unheard w b2 < unheard w b
+          pub fewer_after : unheard w b2 < unheard w b
           fewer_after =
               let votes_ = count_le_of_weaker_test (λ name. not (is_some (b2.votes name))) (λ name. not (is_some (b.votes name))) 256
               (λ j t. split_on_bool (j == k)
@@ -303,7 +303,7 @@ module _ (w : World) (c : ℕ) (sound : VotersAreSound w c) (may : MayReset w c)
                 leaving = ap (λ (x : Node). x.leaving) voter_after ∙ r.rests.leaving ∙ ap (λ (x : Node). x.leaving) same_voter;
               }
 
-          come_with_vote : VotesCome w v2 c (refresh_at_end (v.nodes c)) b3
+          pub come_with_vote : VotesCome w v2 c (refresh_at_end (v.nodes c)) b3
           come_with_vote =
               let e1 = exchanges_happen 1 v k c both in
               let s = still (v.nodes c) waits in
@@ -333,7 +333,7 @@ module _ (w : World) (c : ℕ) (sound : VotersAreSound w c) (may : MayReset w c)
                 looked = ap (λ (t : TwoNodes). t.member_) exchanged;
               }
 
-          fewer_with_vote : unheard w b3 < unheard w b
+          pub fewer_with_vote : unheard w b3 < unheard w b
           fewer_with_vote =
               let small = votes_.current_.small in
               let same : (k == k) ≡ true = itself_is_equal k in
