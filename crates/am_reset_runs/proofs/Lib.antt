@@ -3,3 +3,4 @@ pub mod Parts
 mod Counts
 pub mod Voting
 pub mod Votes
+pub mod Heard

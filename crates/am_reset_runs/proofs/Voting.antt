@@ -37,7 +37,7 @@ more_rounds_are_not_less a b low = grind (arith, nat_tests)
 turned : (a b : ℕ) → (a == b) ≡ false → (b == a) ≡ false
 turned a b f = grind (arith, nat_tests)
 
-itself_is_equal : (k : ℕ) → (k == k) ≡ true
+pub itself_is_equal : (k : ℕ) → (k == k) ≡ true
 itself_is_equal k = grind (arith, nat_tests)
 
 -- who has voted has voted as long as its node is the same
@@ -80,7 +80,7 @@ module _ (w : World) (c : ℕ) (sound : VotersAreSound w c) (may : MayReset w c)
 
     -- ---- who is needed
 
-    is_best : IsBestVote b.votes m.core.who (own_vote m) (best_vote_for_ballot m b)
+    pub is_best : IsBestVote b.votes m.core.who (own_vote m) (best_vote_for_ballot m b)
     unfolding best_vote_for_ballot
     is_best = best_vote_is_greatest b.votes m.core.who (own_vote m) (subst (λ (u : Stamp). u.by < 256) (sym same_view) (sound.small c may.itself))
         (λ name vote shown. (let x = h.votes name vote shown in subst (λ (u : Stamp). u.by < 256) (sym x.view_) (sound.small name x.may)))
