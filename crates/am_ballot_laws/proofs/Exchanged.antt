@@ -8,6 +8,7 @@ use Rattle.am_model.specs.Emit.{StepResult}
 use Rattle.am_base.specs.declared.event.NodeEvent.TheVariants as does
 use Rattle.am_base.specs.declared.outcome.Outcome.TheVariants as said
 use Rattle.am_base.specs.Founding.{Rules}
+use Rattle.std.specs.Prelude.{◌*◌}
 use Rattle.std.proofs.lemmas.Bool.{cases_lt}
 use Rattle.std.proofs.lemmas.Option.{slice_get_within}
 use Rattle.am_fetch_laws.specs.Exchanges.{TwoNodes, hear_letters, exchange, exchanges}
@@ -180,11 +181,29 @@ exchanges_follow t best b h =
 
 -- ---- all of them
 
-pub exchanges_reach_whole : ExchangesReachWhole
+-- what the voter keeps meanwhile
+pub record RestsAsVoter (p q : Node) : Type 0 where
+  pub promise : q.core.promise ≡ p.core.promise
+  pub status : q.status ≡ p.status
+  pub leaving : q.leaving ≡ p.leaving
+
+voter_rests : (t : TwoNodes) (best : Vote) (b : Ballot) → MayFollowVoter t.sequencer t.member_ best b → RestsAsVoter t.sequencer (exchange t).sequencer
+voter_rests t best b h =
+    let is = ap (λ (x : TwoNodes). x.sequencer) (exchange_is t.sequencer t.member_ best b h) in
+    let r = end_refresh_rests_with_list t.sequencer in
+    record {
+      promise = ap (λ (n : Node). n.core.promise) is ∙ r.rests.promise;
+      status = ap (λ (n : Node). n.status) is ∙ r.rests.status;
+      leaving = ap (λ (n : Node). n.leaving) is ∙ r.rests.leaving;
+    }
+
+pub exchanges_reach_whole_of_voter : (t : TwoNodes) (many : ℕ) (best : Vote) (b : Ballot) → MayFollowVoter t.sequencer t.member_ best b → top t.sequencer ≤ top t.member_ + 8 * many
+    → (n : ℕ) × (n ≤ many) × LooksAtWhole t.sequencer.core.log (fetching_ballot b t.sequencer.core.who (top t.sequencer)) (exchanges n t).member_
+    × RestsAsVoter t.sequencer (exchanges n t).sequencer
 unfolding exchanges
-exchanges_reach_whole t zero best b h far = (let missing = h.list.missing in absurd (omega arith))
-exchanges_reach_whole t (suc many) best b h far = elim (exchanges_follow t best b h) [
-  | inl whole ↦ (1, omega arith, whole)
+exchanges_reach_whole_of_voter t zero best b h far = (let missing = h.list.missing in absurd (omega arith))
+exchanges_reach_whole_of_voter t (suc many) best b h far = elim (exchanges_follow t best b h) [
+  | inl whole ↦ (1, omega arith, whole, voter_rests t best b h)
   | inr f ↦
       (let u = exchange t in
       let is = ap (λ (x : TwoNodes). x.sequencer) (exchange_is t.sequencer t.member_ best b h) in
@@ -193,10 +212,16 @@ exchanges_reach_whole t (suc many) best b h far = elim (exchanges_follow t best 
       let who : u.sequencer.core.who ≡ t.sequencer.core.who = ap (λ (n : Node). n.core.who) is ∙ rp.rests.who in
       let long = ap (λ (l : Log). top_of_log l) log in
       let more = f.more in
-      let rest = exchanges_reach_whole u many best (fetching_ballot b u.sequencer.core.who (top u.member_ + 1)) f.goes_on (omega arith) in (
+      let first = voter_rests t best b h in
+      let rest = exchanges_reach_whole_of_voter u many best (fetching_ballot b u.sequencer.core.who (top u.member_ + 1)) f.goes_on (omega arith) in
+      let then_ = rest.3 in (
         suc rest.0,
         omega arith,
         subst (λ i. LooksAtWhole t.sequencer.core.log (fetching_ballot b i (top t.sequencer)) (exchanges rest.0 u).member_) who
             (subst (λ (l : Log). LooksAtWhole l (fetching_ballot b u.sequencer.core.who (top_of_log l)) (exchanges rest.0 u).member_) log rest.2),
+        record { promise = then_.promise ∙ first.promise; status = then_.status ∙ first.status; leaving = then_.leaving ∙ first.leaving },
       ))
 ]
+
+pub exchanges_reach_whole : ExchangesReachWhole
+exchanges_reach_whole t many best b h far = let r = exchanges_reach_whole_of_voter t many best b h far in (r.0, r.1, r.2)

@@ -52,7 +52,7 @@ best_with_same_list x y b d votes who log =
 
 module _ (w v : World) (c : ℕ) (sound : VotersAreSound w c) (may : MayReset w c) (m : Node) (b : Ballot) (h : VotesCome w v c m b)
     (nobody : nat_lt 0 (size (names_that_pass (is_waited_for m.core.who b) (need_set_of m b))) ≡ false) (stays : (v.nodes c).leaving ≡ false) where
-  current_of_voter : (name : ℕ) → MayVoteFor w c name → IsCurrent v name
+  pub current_of_voter : (name : ℕ) → MayVoteFor w c name → IsCurrent v name
   current_of_voter name x = record {
     small = x.current_.small;
     now = ap (λ (f : ℕ → ℕ). current (record w { lives = f }) (place_of_name name)) h.lives ∙ x.current_.now;
@@ -62,7 +62,7 @@ module _ (w v : World) (c : ℕ) (sound : VotersAreSound w c) (may : MayReset w 
   needed : has (need_set_of m b) m.core.who ≡ true
   needed = itself_is_needed w c sound may v m b h
 
-  kept : b.given_up c ≡ false
+  pub kept : b.given_up c ≡ false
   kept = split_on_bool (b.given_up c) (λ t. absurd (let z = h.given c t in let y = may.itself.current_.runs in cc)) (λ f. f)
 
   -- who is needed and wasn't given up has voted

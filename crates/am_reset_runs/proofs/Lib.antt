@@ -4,3 +4,4 @@ mod Counts
 pub mod Voting
 pub mod Votes
 pub mod Heard
+pub mod Fetched
