@@ -15,7 +15,7 @@ use Rattle.am_trim_laws.specs.Votes.{PacketVoteTellsTaken, BallotVotesTellTaken,
 
 -- ---- a change
 
-abbrev CauseVoteTellsTaken : (ℕ → Node) → Cause → Type 0
+abbrev pub CauseVoteTellsTaken : (ℕ → Node) → Cause → Type 0
 CauseVoteTellsTaken nodes (hears p) = PacketVoteTellsTaken nodes p
 CauseVoteTellsTaken nodes _ = Unit {0}
 
@@ -27,13 +27,13 @@ told_open : (nodes : ℕ → Node) (m : Node) (b : Ballot) → HasOpenBallot m b
 told_open nodes m b o h = subst (BallotVotesTellTaken nodes) o.last h
 
 -- a ballot that is looked at has the votes that it had, or one more
-told_looked : (nodes : ℕ → Node) (c : Cause) (m : Node) (b : Ballot) → CauseVoteTellsTaken nodes c → BallotIsLookedAt c m b → BallotVotesTellTaken nodes m.ballot
+pub looked_votes_tell_taken : (nodes : ℕ → Node) (c : Cause) (m : Node) (b : Ballot) → CauseVoteTellsTaken nodes c → BallotIsLookedAt c m b → BallotVotesTellTaken nodes m.ballot
     → BallotVotesTellTaken nodes (Some b)
-told_looked nodes c m b heard (as_it_is old o on) h = told_open nodes m old o h
-told_looked nodes c m b heard (without_one old gone is o other) h = λ name shown. split_on_bool (name == gone)
+looked_votes_tell_taken nodes c m b heard (as_it_is old o on) h = told_open nodes m old o h
+looked_votes_tell_taken nodes c m b heard (without_one old gone is o other) h = λ name shown. split_on_bool (name == gone)
     (λ t. λ at. absurd (let z = rw t at at in cc))
     (λ f. λ at. told_open nodes m old o h name shown (rw f at at))
-told_looked nodes c m b heard (with_more old s v brought is by low high o same stays) h = λ name shown. split_on_bool (name == s)
+looked_votes_tell_taken nodes c m b heard (with_more old s v brought is by low high o same stays) h = λ name shown. split_on_bool (name == s)
     (λ t. λ at.
     let its : name ≡ s = eqb-true name s t in
     let is_vote : brought ≡ shown = (let z = rw t at at in cc) in
@@ -50,14 +50,14 @@ told_change nodes c o m n heard refreshes h = subst (BallotVotesTellTaken nodes)
 told_change nodes c o m n heard settles h = subst (λ (x : Node). BallotVotesTellTaken nodes x.ballot) (sym (settle_changes_only_sends m)) h
 told_change nodes c o m n heard (promises v low why) h = told_overtaken nodes v m.ballot h
 told_change nodes c o m n heard (opens least resilience begins may) h = λ name shown at. absurd (cc)
-told_change nodes c o m n heard (looks b verdict over why look is) h = told_look nodes m b verdict look (told_looked nodes c m b heard why h)
+told_change nodes c o m n heard (looks b verdict over why look is) h = told_look nodes m b verdict look (looked_votes_tell_taken nodes c m b heard why h)
 told_change nodes c o m n heard (closes leads leaves alone room) h =
     subst (BallotVotesTellTaken nodes) (sym (end_refresh_rests_with_list (push_entry m (Leave m.core.who))).rests.ballot) h
 told_change nodes c o m n heard _ h = h
 
-told_changes : (nodes : ℕ → Node) {c : Cause} {o : Outcome} (m n : Node) → CauseVoteTellsTaken nodes c → Changes c o m n → BallotVotesTellTaken nodes m.ballot → BallotVotesTellTaken nodes n.ballot
-told_changes nodes m n heard no_change h = h
-told_changes nodes m n heard (changed {n = x} one more) h = told_changes nodes x n heard more (told_change nodes _ _ m x heard one h)
+pub changes_keep_votes_told : (nodes : ℕ → Node) {c : Cause} {o : Outcome} (m n : Node) → CauseVoteTellsTaken nodes c → Changes c o m n → BallotVotesTellTaken nodes m.ballot → BallotVotesTellTaken nodes n.ballot
+changes_keep_votes_told nodes m n heard no_change h = h
+changes_keep_votes_told nodes m n heard (changed {n = x} one more) h = changes_keep_votes_told nodes x n heard more (told_change nodes _ _ m x heard one h)
 
 -- ---- who has taken more
 
@@ -83,11 +83,11 @@ record AllVotesAreTrue (rules : Rules) (w : World) : Type 0 where
   laws : WorldTrimsOnlyTaken rules w
   told : WorldVotesTellTaken w
 
-cause_told : (w : World) (e : Event) (c : Cause) → All (LetterTold w.nodes) w.letters → IsCause w (acting_name w e) e.act c → CauseVoteTellsTaken w.nodes c
-cause_told w e (hears p) all cause =
+pub cause_of_run_votes_taken : (w : World) (e : Event) (c : Cause) → All (LetterTold w.nodes) w.letters → IsCause w (acting_name w e) e.act c → CauseVoteTellsTaken w.nodes c
+cause_of_run_votes_taken w e (hears p) all cause =
     let was : WasSentTo w (acting_name w e) e.act p = cause in
     subst (PacketVoteTellsTaken w.nodes) was.is (all_gives_item_at (LetterTold w.nodes) w.letters (packet_heard_by_act e.act) was.letter all was.there)
-cause_told w e _ all cause = tt
+cause_of_run_votes_taken w e _ all cause = tt
 
 told_step : (rules : Rules) → StepsKeepLaw (WorldTrimsOnlyTaken rules) (AllVotesAreTrue rules)
 unfolding world_with_step
@@ -97,7 +97,7 @@ told_step rules w e c s cause effect laws h =
     let few = actor_is_below_256 rules w e h.laws.blanks.base.named in
     let rises = node_rises_by_change rules (w.nodes name) n (heard_stamps_have_names rules w e c h.laws.blanks.base cause) (heard_welcome_image_is_used rules w e c h.laws cause)
     effect.changes (each_node_trims_only_taken rules w name few h.laws) in
-    let mine = told_changes w.nodes (w.nodes name) n (cause_told w e c h.told.letters cause) effect.changes (h.told.ballots name few) in
+    let mine = changes_keep_votes_told w.nodes (w.nodes name) n (cause_of_run_votes_taken w e c h.told.letters cause) effect.changes (h.told.ballots name few) in
     let v = world_with_step w e name s in
     let itself_ = number_equals_itself name in
     let here : v.nodes name ≡ n = rw itself_ refl in
