@@ -1,13 +1,12 @@
 -- What a step makes of a node's base, and of what it knows another name to have taken: both stay within a limit that what it hears keeps.
-use Rattle.am_repair.proofs.RepairWords.{Packet, ◌≡◌, ℕ, ◌<◌, ◌≤◌, ◌==◌, List, refl, sym, ap, ◌∙◌, subst, arith, Stamp, Report, Outcome, Rules, Node, Ballot, BallotVerdict, is_sequencer}
+use Rattle.am_repair.proofs.RepairWords.{Packet, ◌≡◌, ℕ, ◌≤◌, ◌==◌, List, refl, sym, ap, ◌∙◌, subst, arith, Stamp, Report, Outcome, Rules, Node, Ballot, BallotVerdict, is_sequencer}
 use Rattle.am_repair.proofs.RepairWords.{Cause, hears, Says, Change, refreshes, settles, takes_report, admits, notes, begins_list, looks, fetches, stores_view, closes, LooksAtBallot, finds_no_room, decides}
 use Rattle.am_repair.proofs.RepairWords.{HeardStampsHaveNames, HeardWelcomeImageIsUsed, TrimsOnlyTakenAlongStep, changes_trim_only_taken, settle_changes_only_sends, refresh_rests_with_list, split_on_bool, eqb-true}
-use Rattle.am_repair.proofs.RepairWords.{node_with_report, refresh, refresh_at_end, settle_waiting_send, nat_lt, nat_le, max, true, false, CauseHasReport, Log, if◌then◌else◌, raise_accepted_to_told, pass_over_below_join, bcast}
-use Rattle.std.specs.Prelude.{◌-◌, length, unwrap_or}
+use Rattle.am_repair.proofs.RepairWords.{node_with_report, refresh, refresh_at_end, nat_lt, nat_le, max, true, false, CauseHasReport, Log, if◌then◌else◌, raise_accepted_to_told, pass_over_below_join, bcast}
+use Rattle.std.specs.Prelude.{length, unwrap_or}
 use Rattle.am_base.specs.declared.entry.Entry.{Entry}
 use Rattle.am_base.specs.Names.{names_of}
 use Rattle.am_node_defs.specs.Reports.{least_of_names}
-use Rattle.am_model.specs.Node.{top}
 use Rattle.am_model.specs.Ballots.{need_set_of, need_set_without_given_up, taken_number_of_voter}
 use Rattle.am_step_laws.specs.Causes.{CauseHasFronts, with_entry, with_number, alone}
 use Rattle.am_step_laws.specs.Looks.{HasLearned}

@@ -1,18 +1,16 @@
 -- What any node has trimmed, or any letter tells to be trimmed, was taken by each name that goes on, or is below a number at which it was a member: what
 -- is kept of this in a run, and that a step keeps it.
 use Rattle.am_repair.proofs.Repairable.RepairedWords.{◌≡◌, either, ℕ, ◌<◌, ◌≤◌, ◌==◌, ◌-◌, max, true, false, List, [], ◌∷◌, ◌++◌, length, take, refl, sym, ap, ◌∙◌, subst, arith, eqb-true}
-use Rattle.am_repair.proofs.Repairable.RepairedWords.{All, All-nil, All-append, All-weaker, Rules, Event, Letter, Image, Group, Node, Ballot, BallotVerdict, World, StepResult, Outcome, members_of_image, has}
+use Rattle.am_repair.proofs.Repairable.RepairedWords.{All, All-nil, All-append, All-weaker, Rules, Event, Letter, Group, Node, Ballot, World, StepResult, has}
 use Rattle.am_repair.proofs.Repairable.RepairedWords.{is_stopped, is_sequencer, has_departed, run, split_on_bool, packet_heard_by_act, world_with_step, is_member_at_end, refresh_at_end, members, Status, NameStands, Report, Entry}
-use Rattle.am_repair.proofs.Repairable.RepairedWords.{Cause, hears, acting_name, WasSentTo, IsCause, steps, LooksAtBallot, LetterSays, EndOfStep, at_end, let_go, closing}
-use Rattle.am_repair.proofs.Repairable.RepairedWords.{IsBeginningOf, beginning_is_no_longer, begins_through_both, taken_front_begins_list, take_of_longer_list, image_of_whole_list, chain_of, end_refresh_rests_with_list}
+use Rattle.am_repair.proofs.Repairable.RepairedWords.{Cause, hears, acting_name, WasSentTo, IsCause, steps, LetterSays, EndOfStep, at_end, let_go, closing}
+use Rattle.am_repair.proofs.Repairable.RepairedWords.{beginning_is_no_longer, take_of_longer_list, end_refresh_rests_with_list}
 use Rattle.am_repair.proofs.Repairable.RepairedWords.{HeardStampsHaveNames, HeardWelcomeImageIsUsed, TrimsOnlyTakenAlongStep, WorldTrimsOnlyTaken, run_trims_only_taken, events_trim_only_taken, each_node_trims_only_taken, heard_welcome_image_is_used, heard_stamps_have_names, number_bounds_hold_in_runs}
 use Rattle.am_repair.proofs.Repairable.RepairedWords.{OneStepWithGroup, parts_of_one_step, one_step_grows_group, known_is_taken, sequencers_trim_known, reports_of_runs_are_true, cause_of_run_reports_taken, end_keeps_reports_of_others, BaseAndTakenRise}
 use Rattle.am_repair.proofs.Repairable.RepairedWords.{departed_nodes_are_silent, departed_step_sends_no_letters, departed_status_is_departed}
 use Rattle.am_repair.proofs.Repairable.Began.{node_rises_by_change}
-use Rattle.am_repair.proofs.Repairable.One.{running_sequencer_leads}
 use Rattle.am_repair.proofs.Silent.{step_sends_nothing_or_stays, sender_of_effect_is_node}
 use Rattle.am_repair.specs.Known.{TrimsKnown}
-use Rattle.am_abstract_group.specs.Group.{IsThere}
 use Rattle.am_step_laws.specs.Looks.{BallotIsLookedAt, HasLearned}
 use Rattle.am_step_laws.specs.Courses.{PlainChangesInTurn, ChangesWithLook, plainly, looked}
 use Rattle.am_step_laws.proofs.Items.{all_gives_item_at}
@@ -22,7 +20,6 @@ use Rattle.am_run_laws.proofs.SentRuns.{records_after_step, cause_of_step_was_se
 use Rattle.am_refinement.specs.Standing.{within}
 use Rattle.am_refinement.specs.Accepting.{nothing}
 use Rattle.am_refinement.specs.Keeping.{Stepping}
-use Rattle.am_refinement.proofs.Trimming.{TakenIsWithinGroup}
 use Rattle.am_refinement.proofs.NodeKeeping.Keeping.{looked_at_ballot_is_known, group_is_kept_at_step}
 use Rattle.am_refinement.proofs.WholeSteps.Starting.{with_records, run_bodies_were_sent, step_begins_with_known_group}
 use Rattle.am_refinement.proofs.WholeSteps.Worlds.{with_group_list}
@@ -31,7 +28,7 @@ use Rattle.am_refinement.proofs.WholeSteps.Courses.{ballot_look_brings_no_report
 use Rattle.am_refinement.proofs.WholeSteps.StepGoing.{CourseSoFar, GroupListByNow, as_before, by_reports, course_stands_as_moves}
 use Rattle.am_trim_laws.specs.Trims.{base_of_packet}
 use Rattle.am_trim_laws.proofs.VotesTold.{CauseVoteTellsTaken, looked_votes_tell_taken, changes_keep_votes_told, cause_of_run_votes_taken, votes_tell_taken}
-use Rattle.am_trim_laws.proofs.Bases.{heard_base, said_base_le_base, NodeIsWithin, HearsWithin, CourseIsWithin, both, reported, StepBeginsWithin, course_stays_within, look_stays_within, follower_end_keeps_base, least_taken_by_votes}
+use Rattle.am_trim_laws.proofs.Bases.{heard_base, said_base_le_base, CourseIsWithin, both, reported, StepBeginsWithin, course_stays_within, look_stays_within, follower_end_keeps_base, least_taken_by_votes}
 use Rattle.am_trim_laws.proofs.Least.{votes_least_is_taken}
 use Rattle.am_trim_laws.proofs.Listed.{GoesOn, running_sequencer_lists_member}
 use Rattle.std.proofs.lemmas.Bool.{cases_lt}

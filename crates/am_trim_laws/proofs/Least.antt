@@ -1,5 +1,5 @@
 -- What a coordinator trims by the votes: each name that runs, stays, and was a member by what was accepted is needed, and has voted what it had taken.
-use Rattle.am_refinement.proofs.Words.{◌≡◌, ℕ, ◌+◌, ◌-◌, ◌<◌, ◌≤◌, ◌==◌, not, max, true, false, List, length, take, slice_index, Option, Some, unwrap_or, option_map}
+use Rattle.am_refinement.proofs.Words.{◌≡◌, ℕ, ◌+◌, ◌-◌, ◌≤◌, ◌==◌, not, max, true, false, List, length, take, slice_index, Some, unwrap_or, option_map}
 use Rattle.am_refinement.proofs.Words.{refl, sym, ap, ◌∙◌, subst, arith, nat_tests, Vote, place_of_name, life_of_name, name_of_place_and_life, either}
 use Rattle.am_refinement.proofs.Words.{has, names_of, members_of_image, least_of_names, least_of_names_le_each}
 use Rattle.am_refinement.proofs.Words.{IsBeginningOf, image_of_list, is_member_at_end, shorter_beginning_begins_longer, begins_through_both, taken_front_begins_list, length_of_taken_list}

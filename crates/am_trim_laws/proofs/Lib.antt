@@ -4,3 +4,4 @@ pub mod Least
 pub mod Listed
 pub mod Kept
 pub mod Taken
+pub mod Staying

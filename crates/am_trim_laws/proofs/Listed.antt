@@ -1,5 +1,5 @@
 -- A sequencer that runs has each name in its list that goes on and was a member by what is accepted.
-use Rattle.am_repair.proofs.Repairable.RepairedWords.{◌≡◌, ℕ, ◌<◌, true, false, take, sym, ap, ◌∙◌, subst, Rules, Group, GroupKeeps, Node, World, Image, is_stopped, is_sequencer, has_departed}
+use Rattle.am_repair.proofs.Repairable.RepairedWords.{◌≡◌, ℕ, ◌<◌, true, false, take, sym, ap, ◌∙◌, subst, Rules, Group, GroupKeeps, World, Image, is_stopped, is_sequencer, has_departed}
 use Rattle.am_repair.proofs.Repairable.RepairedWords.{has, members, members_of_image, is_member_at_end, begins_through_both, taken_front_begins_list, image_of_whole_list, Following}
 use Rattle.am_repair.proofs.Repairable.One.{running_sequencer_leads}
 use Rattle.am_abstract_group.specs.Group.{IsThere}

@@ -1,18 +1,16 @@
 -- So it is in every lawful run: each base was taken by each Member that runs and isn't leaving, or is below its Join.
-use Rattle.am_repair.proofs.Repairable.RepairedWords.{◌≡◌, ℕ, ◌<◌, ◌≤◌, ◌==◌, ◌-◌, ◌+◌, max, true, false, None, Some, List, length, take, slice_get, refl, sym, ap, ◌∙◌, subst, arith, eqb-true, All-nil, All-weaker}
-use Rattle.am_repair.proofs.Repairable.RepairedWords.{Rules, MayFound, Event, Letter, Group, Node, World, is_stopped, is_sequencer, is_member, has_departed, run, start, first_node, has, members, split_on_bool, is_member_at_end, members_of_image}
+use Rattle.am_repair.proofs.Repairable.RepairedWords.{◌≡◌, ℕ, ◌<◌, ◌≤◌, ◌==◌, ◌-◌, max, true, false, None, List, length, take, refl, sym, ap, ◌∙◌, subst, arith, eqb-true, All-nil, All-weaker}
+use Rattle.am_repair.proofs.Repairable.RepairedWords.{Rules, MayFound, Event, Group, Node, World, is_stopped, is_sequencer, has_departed, run, start, first_node, has, members, split_on_bool, is_member_at_end, members_of_image}
 use Rattle.am_repair.proofs.Repairable.RepairedWords.{item_of_index_has_property, member_status_has_log, member_has_not_departed, broken_at, front_is_lawful, lawful_front, steps_are_group_moves, GroupKeeps, group_run_is_kept, lowest_name_or_zero, Following}
-use Rattle.am_repair.proofs.Repairable.RepairedWords.{PropertyIsKeptByRuns, WorldStaysQuiet, group_follows_unbroken_run, known_is_taken, sequencers_trim_known, end_keeps_reports_of_others, end_refresh_rests_with_list, run_trims_only_taken, image_of_whole_list, chain_of}
-use Rattle.am_repair.proofs.Repairable.RepairedWords.{begins_through_both, taken_front_begins_list, WorldTrimsOnlyTaken}
+use Rattle.am_repair.proofs.Repairable.RepairedWords.{PropertyIsKeptByRuns, WorldStaysQuiet, group_follows_unbroken_run, known_is_taken, sequencers_trim_known, end_keeps_reports_of_others, end_refresh_rests_with_list, run_trims_only_taken}
+use Rattle.am_repair.proofs.Repairable.RepairedWords.{WorldTrimsOnlyTaken}
 use Rattle.am_repair.proofs.Repairable.RepairedWords.{TrimsOnlyTakenAlongStep, changes_trim_only_taken, each_node_trims_only_taken, Changes, changed, unchanged, refreshes, settles, settle_changes_only_sends, Log, image_of_log, Report}
 use Rattle.am_repair.proofs.RepairWords.{nat_lt, refresh, refresh_at_end, settle_waiting_send, refresh_as_sequencer, raise_own_report, tell_accept_front, advance_with_reports, trim_to_least_taken, raise_accepted_to_told, pass_over_below_join}
 use Rattle.am_base.specs.declared.outcome.Outcome.TheVariants as said
 use Rattle.am_step_laws.specs.Causes.{refuses}
 use Rattle.am_repair.proofs.Known.Knowing.{trims_known_after_end}
-use Rattle.am_abstract_group.specs.Group.{IsThere}
 use Rattle.am_step_laws.proofs.Rests.{is_sequencer_after_rest}
-use Rattle.am_step_laws.proofs.Trimming.Trims.{NodeTrimFronts, end_refresh_keeps_trim_fronts}
-use Rattle.am_trim_laws.specs.Trims.{base_of_packet, RunsAndStays, taken_or_below_join, BasesAreTaken, ToldBasesAreTaken, TrimsAreTaken, HasComeToJoin, MembersHaveTakenTrims}
+use Rattle.am_trim_laws.specs.Trims.{base_of_packet, RunsAndStays, taken_or_below_join, BasesAreTaken, ToldBasesAreTaken, TrimsAreTaken, MembersHaveTakenTrims}
 use Rattle.am_trim_laws.proofs.Bases.{follower_end_keeps_base}
 use Rattle.am_trim_laws.proofs.Listed.{GoesOn, running_sequencer_lists_member}
 use Rattle.am_trim_laws.proofs.Kept.{NumberIsTaken, LetterBaseIsTaken, AllBasesAreTaken, nought_is_taken, step_keeps_bases_taken}
@@ -95,7 +93,7 @@ pub record EndOfLawfulRun (rules : Rules) (events : List Event) : Type 0 where
 unbroken : (rules : Rules) (events : List Event) → lawful_front rules events ≡ events → broken_at rules events ≡ None
 unbroken rules events lawful = subst (λ es. broken_at rules es ≡ None) lawful (front_is_lawful rules events)
 
-end_of_lawful_run : (rules : Rules) (events : List Event) → MayFound rules → lawful_front rules events ≡ events → EndOfLawfulRun rules events
+pub end_of_lawful_run : (rules : Rules) (events : List Event) → MayFound rules → lawful_front rules events ≡ events → EndOfLawfulRun rules events
 end_of_lawful_run rules events may lawful =
     let h = group_follows_unbroken_run (λ w s. AllBasesAreTaken w) rules (bases_are_kept rules) steps_are_group_moves may (λ s f. start_bases rules) events
     (unbroken rules events lawful) in

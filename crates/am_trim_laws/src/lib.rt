@@ -1,6 +1,7 @@
 //! Laws of what is trimmed in lawful runs: a Member that runs and isn't leaving has taken it, or hasn't come to its Join yet (docs/REPAIR.md).
 #![tactic(auto)]
 
+ghost use Rattle.am_trim_laws.specs.Staying.{CoordinatorsPastJoinFetch, StayingMembersLag, StayingMembersMayGather};
 ghost use Rattle.am_trim_laws.specs.Trims.{BasesAreTaken, MembersHaveTakenTrims, ToldBasesAreTaken, TrimsAreTaken};
 ghost use Rattle.am_trim_laws.specs.Votes.{VotesTellTaken};
 
@@ -17,4 +18,12 @@ pub fn members_have_taken_what_is_trimmed()
     ensures told { ToldBasesAreTaken }
     ensures trims { TrimsAreTaken }
     ensures members { MembersHaveTakenTrims }
+{}
+
+/// So in lawful runs the laws of am_fetch_runs hold without their conditions on what is trimmed, for members that aren't leaving and have come to
+/// their Join: of members without a sequencer's View, of all members of a sequencer's list, and of a coordinator whose ballot fetches.
+pub fn members_that_stay_may_fetch()
+    ensures lag { StayingMembersLag }
+    ensures gather { StayingMembersMayGather }
+    ensures fetch { CoordinatorsPastJoinFetch }
 {}
