@@ -16,18 +16,19 @@ use Rattle.am_reset_runs.proofs.Heard as heard
 
 module _ (w v : World) (c : ℕ) (sound : VotersAreSound w c) (may : MayReset w c) (m : Node) (b : Ballot) (h : VotesCome w v c m b)
     (nobody : nat_lt 0 (size (names_that_pass (is_waited_for m.core.who b) (need_set_of m b))) ≡ false) (stays : (v.nodes c).leaving ≡ false)
-    (other : ((best_vote_for_ballot m b).by == m.core.who) ≡ false) (who : (name : ℕ) → (v.nodes name).core.who ≡ name) where
+    (other : ((best_vote_for_ballot m b).by == m.core.who) ≡ false) (who : (name : ℕ) → (v.nodes name).core.who ≡ name)
+    (come : (name : ℕ) → MayVoteFor w c name → HasComeToJoin (v.nodes name)) where
   abbrev voter : ℕ
   voter = (best_vote_for_ballot m b).by
 
   abbrev b1 : Ballot
-  b1 = heard.b1 w v c sound may m b h nobody stays other
+  b1 = heard.b1 w v c sound may m b h nobody stays come other
 
   shown : HasVoted w v c voter (best_vote_for_ballot m b).vote
-  shown = heard.has_voted w v c sound may m b h nobody stays other
+  shown = heard.has_voted w v c sound may m b h nobody stays come other
 
   now : (name : ℕ) → MayVoteFor w c name → IsThereNow v name
-  now name x = let y = heard.current_of_voter w v c sound may m b h nobody stays name x in record { now = y.now; runs = y.runs; who = who name }
+  now name x = let y = heard.current_of_voter w v c sound may m b h nobody stays come name x in record { now = y.now; runs = y.runs; who = who name }
 
   module _ (best : Vote) (follow : MayFollowVoter (v.nodes voter) (v.nodes c) best b1) where
     pub reach : (n : ℕ) × (n ≤ top (v.nodes voter)) × LooksAtWhole (v.nodes voter).core.log (fetching_ballot b1 (v.nodes voter).core.who (top (v.nodes voter))) (exchanges n (two_of v voter c)).member_
@@ -85,9 +86,10 @@ module _ (w v : World) (c : ℕ) (sound : VotersAreSound w c) (may : MayReset w 
           cc)
     ]
 
-    ready : (name : ℕ) → has (need_set_without_given_up b2 (need_set_of whole b2)) name ≡ true → (name == c) ≡ false → IsReady x name b2.stamp
+    module _ (come_on : (name : ℕ) → is_member (v.nodes name).status ≡ true → HasComeToJoin (v.nodes name) → HasComeToJoin (x.nodes name)) where
+     ready : (name : ℕ) → has (need_set_without_given_up b2 (need_set_of whole b2)) name ≡ true → (name == c) ≡ false → IsReady x name b2.stamp
     ready name there not_it =
-        let before = heard.voter_is_ready w v c sound may m b h nobody stays name (ap (λ set. has (need_set_without_given_up b set) name) (sym same_needed) ∙ there) not_it in
+        let before = heard.voter_is_ready w v c sound may m b h nobody stays come name (ap (λ set. has (need_set_without_given_up b set) name) (sym same_needed) ∙ there) not_it in
         let current_ : IsCurrent x name = record {
           small = before.current_.small;
           now = ap (λ (f : ℕ → ℕ). current (record v { lives = f }) (place_of_name name)) done.lives ∙ before.current_.now;
@@ -113,7 +115,7 @@ module _ (w v : World) (c : ℕ) (sound : VotersAreSound w c) (may : MayReset w 
 
     pub learned_by_fetching : (x.nodes c).leaving ≡ false → HasLearnedAll x c whole b2
     learned_by_fetching remains =
-        let mine = heard.current_of_voter w v c sound may m b h nobody stays c may.itself in
+        let mine = heard.current_of_voter w v c sound may m b h nobody stays come c may.itself in
         record {
           current_ = record {
             small = mine.small;
@@ -126,7 +128,7 @@ module _ (w v : World) (c : ℕ) (sound : VotersAreSound w c) (may : MayReset w 
           promise = sym looks.coordinates.stamp;
           own = ap (λ (u : Stamp). u.by) h.stamp ∙ sound.who c;
           least_ = h.least_;
-          kept = heard.kept w v c sound may m b h nobody stays;
+          kept = heard.kept w v c sound may m b h nobody stays come;
           learned = looks.learned;
           ready = ready;
           looked = looks.is;

@@ -8,6 +8,7 @@ unfoldable use Rattle.am_base.specs.Votes.{best_vote_from}
 use Rattle.am_base.specs.Votes.{all_names}
 use Rattle.am_base.specs.declared.outcome.Outcome.TheVariants as said
 use Rattle.am_fetch_runs.specs.Ballots.{FetchesFromVoter}
+use Rattle.am_trim_laws.specs.Trims.{HasComeToJoin}
 use Rattle.am_reset_runs.proofs.Parts.{stamp_of_reset, VotersAreSound, HasVoted, VotesCome, IsReady, HasLearnedAll, TrimsTaken}
 use Rattle.am_reset_runs.proofs.Voting.{itself_is_needed, is_best, itself_is_equal}
 
@@ -51,7 +52,8 @@ best_with_same_list x y b d votes who log =
 -- ---- nobody is waited for
 
 module _ (w v : World) (c : ℕ) (sound : VotersAreSound w c) (may : MayReset w c) (m : Node) (b : Ballot) (h : VotesCome w v c m b)
-    (nobody : nat_lt 0 (size (names_that_pass (is_waited_for m.core.who b) (need_set_of m b))) ≡ false) (stays : (v.nodes c).leaving ≡ false) where
+    (nobody : nat_lt 0 (size (names_that_pass (is_waited_for m.core.who b) (need_set_of m b))) ≡ false) (stays : (v.nodes c).leaving ≡ false)
+    (come : (name : ℕ) → MayVoteFor w c name → HasComeToJoin (v.nodes name)) where
   pub current_of_voter : (name : ℕ) → MayVoteFor w c name → IsCurrent v name
   current_of_voter name x = record {
     small = x.current_.small;
@@ -81,6 +83,7 @@ module _ (w v : World) (c : ℕ) (sound : VotersAreSound w c) (may : MayReset w 
         current_ = current_of_voter name x.may;
         member_ = ap is_member x.status ∙ x.may.member_;
         stays = x.leaving ∙ x.may.stays;
+        come = come name x.may;
         promise = x.promise ∙ sym h.stamp;
       }
 
@@ -89,6 +92,7 @@ module _ (w v : World) (c : ℕ) (sound : VotersAreSound w c) (may : MayReset w 
   learned_all own = record {
     current_ = current_of_voter c may.itself;
     stays = stays;
+    come = come c may.itself;
     who = h.who;
     listed = ap is_member h.status ∙ may.itself.member_;
     promise = h.promise ∙ sym h.stamp;
@@ -152,5 +156,5 @@ module _ (w v : World) (c : ℕ) (sound : VotersAreSound w c) (may : MayReset w 
           needed = ap (λ s. has s c) set ∙ ap (has (need_set_of m b)) (sym h.who) ∙ needed;
           nobody = ap (λ s. nat_lt 0 (size (names_that_pass (is_waited_for c b1) s))) set ∙ ap (λ i. nat_lt 0 (size (names_that_pass (is_waited_for i b) (need_set_of m b)))) (sym h.who) ∙ nobody;
           promised = x.promise ∙ sym (ap (λ (y : Node). y.core.promise) fetches ∙ r.rests.promise ∙ h.promise);
-          trimmed = trims c current_ member stays;
+          trimmed = trims c current_ member stays (come c may.itself);
         }

@@ -1,6 +1,7 @@
 -- What is known of a coordinator, its voters and its ballot while votes come.
 use Rattle.am_reset_runs.proofs.Words.{◌≡◌, ◌⊎◌, ℕ, ◌==◌, ◌<◌, ◌≤◌, true, false, Some, None, Node, Ballot, Stamp, stamp_is_less, has, top, view, members, refresh_at_end, World, is_stopped, is_member, next_stamp}
 use Rattle.am_reset_runs.proofs.Words.{Vote, vote_is_less, own_vote, decide, need_set_of, need_set_without_given_up, HasLearned, IsCurrent, MayVoteFor}
+use Rattle.am_trim_laws.specs.Trims.{HasComeToJoin}
 
 -- the stamp of its ballot
 abbrev pub stamp_of_reset : World → ℕ → Stamp
@@ -46,18 +47,20 @@ pub record VotesCome (w v : World) (c : ℕ) (m : Node) (b : Ballot) : Type 0 wh
 
 -- ---- a ballot that has learned all that it needs
 
--- a name is ready for a view: a current name that runs, a Member that isn't leaving, which has promised this stamp
+-- a name is ready for a view: a current name that runs, a Member that isn't leaving and has come to its Join, which has promised this stamp
 pub record IsReady (v : World) (name : ℕ) (stamp : Stamp) : Type 0 where
   pub current_ : IsCurrent v name
   pub member_ : is_member (v.nodes name).status ≡ true
   pub stays : (v.nodes name).leaving ≡ false
+  pub come : HasComeToJoin (v.nodes name)
   pub promise : (v.nodes name).core.promise ≡ stamp
 
--- A coordinator that runs and isn't leaving has looked at this ballot with this node, a Member that had learned all. Whoever else is needed and
+-- A coordinator that runs, isn't leaving and has come to its Join has looked at this ballot with this node, a Member that had learned all. Whoever else is needed and
 -- wasn't given up is ready.
 pub record HasLearnedAll (v : World) (c : ℕ) (m : Node) (b : Ballot) : Type 0 where
   pub current_ : IsCurrent v c
   pub stays : (v.nodes c).leaving ≡ false
+  pub come : HasComeToJoin (v.nodes c)
   pub who : m.core.who ≡ c
   pub listed : is_member m.status ≡ true
   pub promise : m.core.promise ≡ b.stamp
@@ -68,7 +71,7 @@ pub record HasLearnedAll (v : World) (c : ℕ) (m : Node) (b : Ballot) : Type 0 
   pub ready : (name : ℕ) → has (need_set_without_given_up b (need_set_of m b)) name ≡ true → (name == c) ≡ false → IsReady v name b.stamp
   pub looked : v.nodes c ≡ refresh_at_end (decide m b).node
 
--- each Member that runs and isn't leaving has taken what this name trims at the end of a step
+-- each Member that runs, isn't leaving and has come to its Join has taken what this name trims at the end of a step
 abbrev pub TrimsTaken : World → ℕ → Type 0
 TrimsTaken v c = (name : ℕ) → IsCurrent v name → is_member (v.nodes name).status ≡ true → (v.nodes name).leaving ≡ false
-    → (refresh_at_end (v.nodes c)).core.base ≤ (v.nodes name).core.taken
+    → HasComeToJoin (v.nodes name) → (refresh_at_end (v.nodes c)).core.base ≤ (v.nodes name).core.taken

@@ -11,14 +11,16 @@ use Rattle.am_group_defs.specs.Lawful.{lawful_front}
 use Rattle.am_group_defs.specs.Settle.{event_at}
 use Rattle.am_group_defs.specs.World.{World, current, is_stopped, run}
 use Rattle.am_fetch_runs.specs.Gathering.{IsCurrent, IsTickOrHearing}
+use Rattle.am_trim_laws.specs.Trims.{HasComeToJoin}
 use Rattle.am_repair_takes.specs.Resting.{NobodyAsks}
 use Rattle.am_repair_fetches.specs.Rest.{IsDecidedAnew, AreAnsweredLater}
 
--- a current name that runs may vote for another: it is a Member, isn't leaving, and has promised no more than that name
+-- a current name that runs may vote for another: it is a Member, isn't leaving, has come to its Join, and has promised no more than that name
 pub record MayVoteFor (w : World) (c name : ℕ) : Type 0 where
   pub current_ : IsCurrent w name
   pub member_ : is_member (w.nodes name).status ≡ true
   pub stays : (w.nodes name).leaving ≡ false
+  pub come : HasComeToJoin (w.nodes name)
   pub promised : stamp_is_less (w.nodes c).core.promise (w.nodes name).core.promise ≡ false
 
 -- a member may reset: whoever is in the list of a name that may vote for it, itself among them, has stopped or may vote for it

@@ -1,8 +1,8 @@
 -- So it is in every lawful run: each base was taken by each Member that runs and isn't leaving, or is below its Join.
 use Rattle.am_repair.proofs.Repairable.RepairedWords.{◌≡◌, ℕ, ◌<◌, ◌≤◌, ◌==◌, ◌-◌, max, true, false, None, List, length, take, refl, sym, ap, ◌∙◌, subst, arith, eqb-true, All-nil, All-weaker}
 use Rattle.am_repair.proofs.Repairable.RepairedWords.{Rules, MayFound, Event, Group, Node, World, is_stopped, is_sequencer, has_departed, run, start, first_node, has, members, split_on_bool, is_member_at_end, members_of_image}
-use Rattle.am_repair.proofs.Repairable.RepairedWords.{item_of_index_has_property, member_status_has_log, member_has_not_departed, broken_at, front_is_lawful, lawful_front, steps_are_group_moves, GroupKeeps, group_run_is_kept, lowest_name_or_zero, Following}
-use Rattle.am_repair.proofs.Repairable.RepairedWords.{PropertyIsKeptByRuns, WorldStaysQuiet, group_follows_unbroken_run, known_is_taken, sequencers_trim_known, end_keeps_reports_of_others, end_refresh_rests_with_list, run_trims_only_taken}
+use Rattle.am_repair.proofs.Repairable.RepairedWords.{item_of_index_has_property, member_status_has_log, member_has_not_departed, lawful_front, steps_are_group_moves, GroupKeeps, group_run_is_kept, lowest_name_or_zero, Following}
+use Rattle.am_repair.proofs.Repairable.RepairedWords.{PropertyIsKeptByRuns, WorldStaysQuiet, known_is_taken, sequencers_trim_known, end_keeps_reports_of_others, end_refresh_rests_with_list, run_trims_only_taken}
 use Rattle.am_repair.proofs.Repairable.RepairedWords.{WorldTrimsOnlyTaken}
 use Rattle.am_repair.proofs.Repairable.RepairedWords.{TrimsOnlyTakenAlongStep, changes_trim_only_taken, each_node_trims_only_taken, Changes, changed, unchanged, refreshes, settles, settle_changes_only_sends, Log, image_of_log, Report}
 use Rattle.am_repair.proofs.RepairWords.{nat_lt, refresh, refresh_at_end, settle_waiting_send, refresh_as_sequencer, raise_own_report, tell_accept_front, advance_with_reports, trim_to_least_taken, raise_accepted_to_told, pass_over_below_join}
@@ -10,7 +10,8 @@ use Rattle.am_base.specs.declared.outcome.Outcome.TheVariants as said
 use Rattle.am_step_laws.specs.Causes.{refuses}
 use Rattle.am_repair.proofs.Known.Knowing.{trims_known_after_end}
 use Rattle.am_step_laws.proofs.Rests.{is_sequencer_after_rest}
-use Rattle.am_trim_laws.specs.Trims.{base_of_packet, RunsAndStays, taken_or_below_join, BasesAreTaken, ToldBasesAreTaken, TrimsAreTaken, MembersHaveTakenTrims}
+use Rattle.am_lawful_runs.proofs.Spared.{LawfulUntilLastStop, lawful_is_until_last_stop, group_follows_until_last_stop}
+use Rattle.am_trim_laws.specs.Trims.{base_of_packet, RunsAndStays, HasComeToJoin, taken_or_below_join, BasesAreTaken, ToldBasesAreTaken, TrimsAreTaken, MembersHaveTakenTrims}
 use Rattle.am_trim_laws.proofs.Bases.{follower_end_keeps_base}
 use Rattle.am_trim_laws.proofs.Listed.{GoesOn, running_sequencer_lists_member}
 use Rattle.am_trim_laws.proofs.Kept.{NumberIsTaken, LetterBaseIsTaken, AllBasesAreTaken, nought_is_taken, step_keeps_bases_taken}
@@ -83,21 +84,20 @@ end_takes_up_to_join : (m : Node) → (refresh_at_end m).core.taken ≤ max m.co
 unfolding refresh_at_end
 end_takes_up_to_join m = subst (λ (n : Node). n.core.taken ≤ max m.core.taken (m.core.start - 1)) (sym (settle_changes_only_sends (refresh m))) (refresh_takes_up_to_join m)
 
--- ---- where a lawful run ends
+-- ---- where a lawful run ends, or one that is lawful until the last stop
 
 pub record EndOfLawfulRun (rules : Rules) (events : List Event) : Type 0 where
   pub group : Group
   pub follows : Following rules (run rules events) group
   pub bases : AllBasesAreTaken (run rules events)
 
-unbroken : (rules : Rules) (events : List Event) → lawful_front rules events ≡ events → broken_at rules events ≡ None
-unbroken rules events lawful = subst (λ es. broken_at rules es ≡ None) lawful (front_is_lawful rules events)
+pub end_until_last_stop : (rules : Rules) (events : List Event) → MayFound rules → LawfulUntilLastStop rules events → EndOfLawfulRun rules events
+end_until_last_stop rules events may lawful =
+    let h = group_follows_until_last_stop (λ w s. AllBasesAreTaken w) rules (bases_are_kept rules) steps_are_group_moves may (λ s f. start_bases rules) events lawful in
+    record { group = h.to; follows = h.follows; bases = h.is }
 
 pub end_of_lawful_run : (rules : Rules) (events : List Event) → MayFound rules → lawful_front rules events ≡ events → EndOfLawfulRun rules events
-end_of_lawful_run rules events may lawful =
-    let h = group_follows_unbroken_run (λ w s. AllBasesAreTaken w) rules (bases_are_kept rules) steps_are_group_moves may (λ s f. start_bases rules) events
-    (unbroken rules events lawful) in
-    record { group = h.to; follows = h.follows; bases = h.is }
+end_of_lawful_run rules events may lawful = end_until_last_stop rules events may (lawful_is_until_last_stop rules events lawful)
 
 -- ---- a Member that runs and stays
 
@@ -177,4 +177,13 @@ trims_are_taken rules events q name may lawful few here runs on =
 pub members_have_taken_trims : MembersHaveTakenTrims
 members_have_taken_trims rules events q name may lawful few here runs on come =
     let low = trims_are_taken rules events q name may lawful few here runs on in
+    omega arith
+
+-- also in a run that is lawful until the last stop
+pub members_have_taken_trims_until_last_stop : (rules : Rules) (events : List Event) (q name : ℕ) → MayFound rules → LawfulUntilLastStop rules events → q < 256
+    → has_departed ((run rules events).nodes q).status ≡ false → is_stopped (run rules events) q ≡ false → RunsAndStays (run rules events) name
+    → HasComeToJoin ((run rules events).nodes name)
+    → (refresh_at_end ((run rules events).nodes q)).core.base ≤ ((run rules events).nodes name).core.taken
+members_have_taken_trims_until_last_stop rules events q name may lawful few here runs on come =
+    let low = trim_is_low rules events name may (end_until_last_stop rules events may lawful) on q few here runs in
     omega arith
