@@ -10,6 +10,7 @@ use Rattle.am_ballot_laws.specs.Following.{LooksAtWhole, MayFollowVoter, fetchin
 use Rattle.am_ballot_laws.proofs.Exchanged.{RestsAsVoter, exchanges_reach_whole_of_voter}
 use Rattle.am_fetch_runs.specs.Events.{events_of_exchanges}
 use Rattle.am_fetch_runs.proofs.Events.{IsThereNow, BothAreThere, ExchangedSoOften, two_of, exchanges_happen}
+use Rattle.am_trim_laws.specs.Trims.{HasComeToJoin}
 use Rattle.am_reset_runs.proofs.Parts.{stamp_of_reset, VotersAreSound, HasVoted, VotesCome, IsReady, HasLearnedAll}
 use Rattle.am_reset_runs.proofs.Voting.{itself_is_equal}
 use Rattle.am_reset_runs.proofs.Heard as heard
@@ -87,49 +88,52 @@ module _ (w v : World) (c : ℕ) (sound : VotersAreSound w c) (may : MayReset w 
     ]
 
     module _ (come_on : (name : ℕ) → is_member (v.nodes name).status ≡ true → HasComeToJoin (v.nodes name) → HasComeToJoin (x.nodes name)) where
-     ready : (name : ℕ) → has (need_set_without_given_up b2 (need_set_of whole b2)) name ≡ true → (name == c) ≡ false → IsReady x name b2.stamp
-    ready name there not_it =
-        let before = heard.voter_is_ready w v c sound may m b h nobody stays come name (ap (λ set. has (need_set_without_given_up b set) name) (sym same_needed) ∙ there) not_it in
-        let current_ : IsCurrent x name = record {
-          small = before.current_.small;
-          now = ap (λ (f : ℕ → ℕ). current (record v { lives = f }) (place_of_name name)) done.lives ∙ before.current_.now;
-          runs = ap (λ (xs : List ℕ). is_stopped (record v { stopped = xs }) name) done.stopped ∙ before.current_.runs;
-        } in
-        split_on_bool (name == voter)
-        (λ t. let same = eqb-true name voter t in
-        record {
-          current_ = current_;
-          member_ = ap (λ i. is_member (x.nodes i).status) same ∙ ap is_member rests.status ∙ ap (λ i. is_member (v.nodes i).status) (sym same) ∙ before.member_;
-          stays = ap (λ i. (x.nodes i).leaving) same ∙ rests.leaving ∙ ap (λ i. (v.nodes i).leaving) (sym same) ∙ before.stays;
-          promise = ap (λ i. (x.nodes i).core.promise) same ∙ rests.promise ∙ ap (λ i. (v.nodes i).core.promise) (sym same) ∙ before.promise;
-        })
-        (λ f. let same = done.others name f not_it in
-        record {
-          current_ = current_;
-          member_ = ap (λ (y : Node). is_member y.status) same ∙ before.member_;
-          stays = ap (λ (y : Node). y.leaving) same ∙ before.stays;
-          promise = ap (λ (y : Node). y.core.promise) same ∙ before.promise;
-        })
+      ready : (name : ℕ) → has (need_set_without_given_up b2 (need_set_of whole b2)) name ≡ true → (name == c) ≡ false → IsReady x name b2.stamp
+      ready name there not_it =
+          let before = heard.voter_is_ready w v c sound may m b h nobody stays come name (ap (λ set. has (need_set_without_given_up b set) name) (sym same_needed) ∙ there) not_it in
+          let current_ : IsCurrent x name = record {
+            small = before.current_.small;
+            now = ap (λ (f : ℕ → ℕ). current (record v { lives = f }) (place_of_name name)) done.lives ∙ before.current_.now;
+            runs = ap (λ (xs : List ℕ). is_stopped (record v { stopped = xs }) name) done.stopped ∙ before.current_.runs;
+          } in
+          split_on_bool (name == voter)
+          (λ t. let same = eqb-true name voter t in
+          record {
+            current_ = current_;
+            member_ = ap (λ i. is_member (x.nodes i).status) same ∙ ap is_member rests.status ∙ ap (λ i. is_member (v.nodes i).status) (sym same) ∙ before.member_;
+            stays = ap (λ i. (x.nodes i).leaving) same ∙ rests.leaving ∙ ap (λ i. (v.nodes i).leaving) (sym same) ∙ before.stays;
+            come = come_on name before.member_ before.come;
+            promise = ap (λ i. (x.nodes i).core.promise) same ∙ rests.promise ∙ ap (λ i. (v.nodes i).core.promise) (sym same) ∙ before.promise;
+          })
+          (λ f. let same = done.others name f not_it in
+          record {
+            current_ = current_;
+            member_ = ap (λ (y : Node). is_member y.status) same ∙ before.member_;
+            stays = ap (λ (y : Node). y.leaving) same ∙ before.stays;
+            come = come_on name before.member_ before.come;
+            promise = ap (λ (y : Node). y.core.promise) same ∙ before.promise;
+          })
 
-    -- ---- it has learned all
+      -- ---- it has learned all
 
-    pub learned_by_fetching : (x.nodes c).leaving ≡ false → HasLearnedAll x c whole b2
-    learned_by_fetching remains =
-        let mine = heard.current_of_voter w v c sound may m b h nobody stays come c may.itself in
-        record {
-          current_ = record {
-            small = mine.small;
-            now = ap (λ (f : ℕ → ℕ). current (record v { lives = f }) (place_of_name c)) done.lives ∙ mine.now;
-            runs = ap (λ (xs : List ℕ). is_stopped (record v { stopped = xs }) c) done.stopped ∙ mine.runs;
-          };
-          stays = remains;
-          who = who_whole;
-          listed = looks.coordinates.listed;
-          promise = sym looks.coordinates.stamp;
-          own = ap (λ (u : Stamp). u.by) h.stamp ∙ sound.who c;
-          least_ = h.least_;
-          kept = heard.kept w v c sound may m b h nobody stays come;
-          learned = looks.learned;
-          ready = ready;
-          looked = looks.is;
-        }
+      pub learned_by_fetching : (x.nodes c).leaving ≡ false → HasLearnedAll x c whole b2
+      learned_by_fetching remains =
+          let mine = heard.current_of_voter w v c sound may m b h nobody stays come c may.itself in
+          record {
+            current_ = record {
+              small = mine.small;
+              now = ap (λ (f : ℕ → ℕ). current (record v { lives = f }) (place_of_name c)) done.lives ∙ mine.now;
+              runs = ap (λ (xs : List ℕ). is_stopped (record v { stopped = xs }) c) done.stopped ∙ mine.runs;
+            };
+            stays = remains;
+            come = come_on c follow.list.fetches.listed (come c may.itself);
+            who = who_whole;
+            listed = looks.coordinates.listed;
+            promise = sym looks.coordinates.stamp;
+            own = ap (λ (u : Stamp). u.by) h.stamp ∙ sound.who c;
+            least_ = h.least_;
+            kept = heard.kept w v c sound may m b h nobody stays come;
+            learned = looks.learned;
+            ready = ready;
+            looked = looks.is;
+          }

@@ -5,3 +5,4 @@ pub mod Voting
 pub mod Votes
 pub mod Heard
 pub mod Fetched
+mod Come
