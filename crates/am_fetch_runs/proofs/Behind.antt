@@ -10,6 +10,15 @@ use Rattle.std.proofs.lemmas.Bool.{false_from_ne_true}
 use Rattle.am_fetch_runs.proofs.Words.{refl, [], ◌∷◌}
 use Rattle.am_base.specs.Lists.{members_of_image}
 
+-- ---- a running member in the group that follows
+
+pub running_member_is_up : (rules : Rules) (w : World) (s : Group) (i : ℕ) → Following rules w s → i < 256 → is_member (w.nodes i).status ≡ true → is_stopped w i ≡ false
+    → IsUp (s.node i)
+running_member_is_up rules w s i old low member runs =
+    let a = old.stands.each i low in
+    let here = member_has_not_departed (w.nodes i).status member in
+    assumption (a.log_ ∙ member_status_has_log (w.nodes i).status member, a.stopped ∙ runs, a.departed ∙ here)
+
 -- ---- a running sequencer in the group that follows
 
 module _ (rules : Rules) (w : World) (s : Group) (q name : ℕ) (old : Following rules w s) (among : RunsInListOf w q name) (own : (w.nodes q).core.who ≡ q) where
@@ -17,10 +26,7 @@ module _ (rules : Rules) (w : World) (s : Group) (q name : ℕ) (old : Following
   kept = group_run_is_kept rules.founders (lowest_name_or_zero rules.founders) rules.resilience s old.group
 
   up : (i : ℕ) → i < 256 → is_member (w.nodes i).status ≡ true → is_stopped w i ≡ false → IsUp (s.node i)
-  up i low member runs =
-      let a = old.stands.each i low in
-      let here = member_has_not_departed (w.nodes i).status member in
-      assumption (a.log_ ∙ member_status_has_log (w.nodes i).status member, a.stopped ∙ runs, a.departed ∙ here)
+  up i low member runs = running_member_is_up rules w s i old low member runs
 
   pub acting : (is_member (w.nodes q).status ≡ true) × ((w.nodes q).core.promise ≡ view (w.nodes q)) × ((view (w.nodes q)).by ≡ (w.nodes q).core.who)
   acting =

@@ -42,15 +42,10 @@ use Rattle.am_fetch_runs.specs.Ballots.{FetchesFromVoter, CoordinatorsMayFollow,
 use Rattle.am_fetch_runs.proofs.Lists.{member_at_end_has_not_left, entry_is_above_start}
 use Rattle.am_fetch_runs.proofs.Words.{MayFound, Event, LawfulUntilLastStop, lawful_is_until_last_stop, some_group_follows_until_last_stop}
 use Rattle.am_fetch_runs.proofs.Ballots.{ballots_end_in_runs}
+use Rattle.am_fetch_runs.proofs.Behind.{running_member_is_up}
+use Rattle.am_fetch_runs.proofs.Votes.{lesser_vote_has_shorter_list}
 
 -- ---- votes and Views
-
--- a lesser vote is of a lesser view, or of the same with a lesser top
-order_of_votes : (a b : Vote) → a.view.by < 256 → b.view.by < 256 → vote_is_less a b ≡ true → (key_of_stamp a.view < key_of_stamp b.view) ⊎ ((a.view ≡ b.view) × (a.top < b.top))
-order_of_votes a b small few less = split_on_bool (stamp_is_less a.view b.view)
-    (λ t. inl (key_is_less_for_lesser_stamp a.view b.view small few t))
-    (λ f. let both = both_of_and (stamps_are_equal a.view b.view) (nat_lt a.top b.top) (rw f at less) in
-    inr (stamp_eq_gives_equality a.view b.view both.0, grind (arith, nat_tests)))
 
 -- a vote of no greater view, with a lesser top, is less
 less_vote : (a b : Vote) → a.view.by < 256 → b.view.by < 256 → key_of_stamp a.view ≤ key_of_stamp b.view → a.top < b.top → vote_is_less a b ≡ true
@@ -105,10 +100,7 @@ module _ (rules : Rules) (w : World) (s : Group) (voter name : ℕ) (b : Ballot)
   kept = group_run_is_kept rules.founders (lowest_name_or_zero rules.founders) rules.resilience s old.group
 
   up : (i : ℕ) → i < 256 → is_member (w.nodes i).status ≡ true → is_stopped w i ≡ false → IsUp (s.node i)
-  up i low member runs =
-      let a = old.stands.each i low in
-      let here = member_has_not_departed (w.nodes i).status member in
-      assumption (a.log_ ∙ member_status_has_log (w.nodes i).status member, a.stopped ∙ runs, a.departed ∙ here)
+  up i low member runs = running_member_is_up rules w s i old low member runs
 
   stands_c : NameStands w name c (s.node name)
   stands_c = old.stands.each name h.at_name.small
@@ -242,17 +234,12 @@ module _ (rules : Rules) (w : World) (s : Group) (voter name : ℕ) (b : Ballot)
   -- ---- the lists
 
   missing : top c < top p
-  missing = elim (order_of_votes (own_vote c) best.vote small_c (names_ voter best.vote shown_p).1 (is_best.own_first other)) [
-    | inl less ↦ elim (cases_lt (length lc) (length lp)) [
-      | inl short ↦ (let x = long_c in let y = long_p in omega arith)
-      | inr long ↦ absurd (
-          let grows = view_key_grows_along_list good_c (shorter_beginning_begins_longer begins_p begins_c long) in
-          let x = ap key_of_stamp viewed_c in
-          let y = ap key_of_stamp (viewed_p ∙ sym best_view) in
-          omega arith)
-    ]
-    | inr short ↦ (let x = best_top in let y = short.1 in omega arith)
-  ]
+  missing =
+      let short = lesser_vote_has_shorter_list lc lp (own_vote c) best.vote good_c begins_c begins_p (names_ voter best.vote shown_p).1 viewed_c (viewed_p ∙ sym best_view) long_c
+          (long_p ∙ sym best_top) (is_best.own_first other) in
+      let x = long_c in
+      let y = long_p in
+      omega arith
 
   begins : IsBeginningOf lc lp
   begins = let m = missing in let x = long_c in let y = long_p in shorter_beginning_begins_longer begins_c begins_p (omega arith)

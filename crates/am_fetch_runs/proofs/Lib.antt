@@ -6,4 +6,5 @@ pub mod Lagging
 pub mod Events
 pub mod Gathering
 pub mod Ballots
+pub mod Votes
 pub mod Coordinating

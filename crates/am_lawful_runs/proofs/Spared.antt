@@ -3,7 +3,7 @@ use Rattle.am_lawful_runs.proofs.Words.{number_equals_itself, ◌≡◌, ℕ, �
 use Rattle.am_lawful_runs.proofs.Words.{Some, None, refl, sym, ap, ◌∙◌, subst, arith, append-nil, append_assoc, length-append, All, All-nil, All-append, Rules, MayFound, Event, Act}
 use Rattle.am_lawful_runs.proofs.Words.{Outcome, Packet, Letter, letter_at, is_for, Group, StepResult, World, start, is_stopped, happens, world_with_record, world_with_step, world_after_act}
 use Rattle.am_lawful_runs.proofs.Words.{world_after_hearing, hear_cut, hear_packet, run, broken_at, lawful_front, front_is_lawful, acting_name, EventHappens, idles, returns, steps, events_have_effects}
-use Rattle.am_lawful_runs.proofs.Words.{steps_are_group_moves, Following, StepsMove}
+use Rattle.am_lawful_runs.proofs.Words.{steps_are_group_moves, Following, StepsMove, world_after_events}
 use Rattle.std.proofs.lemmas.List.Elements.{All-head, All-tail}
 use Rattle.am_group.specs.declared.event.Act.TheVariants as act
 use Rattle.am_base.specs.declared.event.NodeEvent.{NodeEvent}
@@ -30,9 +30,9 @@ StopsNobody e = act_stops_nobody e.act ≡ true
 
 -- ---- who has stopped, and how many lives places have, is as before
 
-record StopsAndLivesStay (w v : World) : Type 0 where
-  stopped : v.stopped ≡ w.stopped
-  lives : v.lives ≡ w.lives
+pub record StopsAndLivesStay (w v : World) : Type 0 where
+  pub stopped : v.stopped ≡ w.stopped
+  pub lives : v.lives ≡ w.lives
 
 stay_by_record : (w : World) (e : Event) (o : Outcome) → StopsAndLivesStay w (world_with_record w e o)
 unfolding world_with_record
@@ -74,6 +74,15 @@ stay_by_act w e name act.Tick spares = stay_by_node_event w e name does.Tick
 stay_by_event : (w : World) (e : Event) → StopsNobody e → StopsAndLivesStay w (happens w e)
 unfolding happens
 stay_by_event w e spares = stay_by_act w e (acting_name w e) e.act spares
+
+-- by events that stop nobody
+pub stops_and_lives_stay : (events : List Event) (w : World) → All StopsNobody events → StopsAndLivesStay w (world_after_events w events)
+unfolding world_after_events
+stops_and_lives_stay [] w spare = record { stopped = refl; lives = refl }
+stops_and_lives_stay (e ∷ events) w spare =
+    let first = stay_by_event w e (All-head StopsNobody e events spare) in
+    let more = stops_and_lives_stay events (happens w e) (All-tail StopsNobody e events spare) in
+    record { stopped = more.stopped ∙ first.stopped; lives = more.lives ∙ first.lives }
 
 -- ---- runs that are lawful until the last stop
 

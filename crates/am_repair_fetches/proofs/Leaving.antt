@@ -1,11 +1,15 @@
--- Ticks and hearings make nobody leave.
-use Rattle.am_repair.proofs.RepairWords.{◌≡◌, ℕ, ◌==◌, not, Bool, true, false, if◌then◌else◌, List, [], ◌∷◌, Option, Some, None, ap, ◌∙◌, subst, All, All-head, All-tail, split_on_bool, eqb-true}
-use Rattle.am_repair.proofs.RepairWords.{Outcome, Letter, Event, Act, is_for, letter_at, Node, StepResult, step, hear_packet, World, is_stopped, happens, world_after_events, world_with_step, world_with_record, world_after_hearing}
-use Rattle.am_repair.proofs.RepairWords.{Cause, calls, hears, Change, Changes, no_change, changed, refreshes, settles, asks_to_leave, acting_name, event_at, steps_have_effects, hearing_has_effects}
+-- By events whose act isn't a Leave nobody comes to leave.
+use Rattle.am_repair.proofs.RepairWords.{◌≡◌, ℕ, ◌==◌, true, false, List, [], ◌∷◌, ap, ◌∙◌, subst, All, All-head, All-tail, split_on_bool, eqb-true}
+use Rattle.am_repair.proofs.RepairWords.{Outcome, Event, Act, Node, World, happens, world_after_events, world_with_step, world_with_record}
+use Rattle.am_repair.proofs.RepairWords.{Cause, calls, IsCause, Change, Changes, no_change, changed, refreshes, settles, asks_to_leave, acting_name, events_have_effects}
 use Rattle.am_repair.proofs.RepairWords.{refresh_rests_with_list, settle_changes_only_sends, Ballot, BallotVerdict, LooksAtBallot, looks, closes}
+use Rattle.std.proofs.lemmas.List.Elements.{All-weaker}
+use Rattle.am_step_laws.proofs.Words.{EventHappens, steps}
+use Rattle.am_step_laws.specs.Events as act
+use Rattle.am_step_laws.specs.Events.{IsCall}
 use Rattle.am_step_laws.specs.Looks.{finds_itself_out}
+use Rattle.am_base.specs.declared.event.NodeEvent.{NodeEvent}
 use Rattle.am_base.specs.declared.event.NodeEvent.TheVariants as does
-use Rattle.am_base.specs.declared.outcome.Outcome.TheVariants as said
 use Rattle.am_fetch_runs.specs.Gathering.{IsTickOrHearing}
 use Rattle.am_fetch_runs.specs.Gathering as gathering
 
@@ -35,40 +39,41 @@ stays_by_changes c m n plain (changed {n = x} one more) h = stays_by_changes c x
 
 -- ---- events
 
-stays_by_step : (w : World) (e : Event) (i name : ℕ) (s : StepResult) → (Stays (w.nodes i) → Stays s.node) → Stays (w.nodes name) → Stays ((world_with_step w e i s).nodes name)
-unfolding world_with_step
-stays_by_step w e i name s makes h = split_on_bool (name == i)
-    (λ t. rw t (makes (subst (λ k. Stays (w.nodes k)) (eqb-true name i t) h)))
+-- an act that isn't a Leave
+abbrev pub IsNoLeaveAct : Act → Type 0
+IsNoLeaveAct Act.Leave = ⊥
+IsNoLeaveAct _ = Unit {0}
+
+abbrev pub HasNoLeaveAct : Event → Type 0
+HasNoLeaveAct e = IsNoLeaveAct e.act
+
+no_leave_call : (w : World) (a : Act) (event : NodeEvent) → IsNoLeaveAct a → IsCall w a event → IsNoLeave (calls event)
+no_leave_call w a event plain act.leave = absurd plain
+no_leave_call w a event plain _ = tt
+
+no_leave_cause : (w : World) (i : ℕ) (a : Act) (c : Cause) → IsNoLeaveAct a → IsCause w i a c → IsNoLeave c
+no_leave_cause w i a (calls event) plain is = no_leave_call w a event plain is
+no_leave_cause w i a _ plain is = tt
+
+stays_by_event : (w : World) (e : Event) (v : World) (name : ℕ) → HasNoLeaveAct e → EventHappens w e v → Stays (w.nodes name) → Stays (v.nodes name)
+unfolding world_with_record world_with_step
+stays_by_event w e v name plain (steps c s runs cause effect) h = split_on_bool (name == acting_name w e)
+    (λ t. rw t (stays_by_changes c (w.nodes (acting_name w e)) s.node (no_leave_cause w (acting_name w e) e.act c plain cause) effect.changes
+    (subst (λ j. Stays (w.nodes j)) (eqb-true name (acting_name w e) t) h)))
     (λ f. rw f h)
+stays_by_event w e v name plain _ h = h
 
-stays_by_record : (w : World) (e : Event) (o : Outcome) (name : ℕ) → Stays (w.nodes name) → Stays ((world_with_record w e o).nodes name)
-unfolding world_with_record
-stays_by_record w e o name h = h
-
-stays_if : (name : ℕ) (b : Bool) (u v : World) → Stays (u.nodes name) → Stays (v.nodes name) → Stays ((if b then u else v).nodes name)
-stays_if name true u v f g = f
-stays_if name false u v f g = g
-
-stays_by_letter : (w : World) (e : Event) (i name : ℕ) (l : Option Letter) → Stays (w.nodes name) → Stays ((world_after_hearing w e i (hear_packet (w.nodes i)) l).nodes name)
-stays_by_letter w e i name None h = stays_by_record w e said.NoPacket name h
-stays_by_letter w e i name (Some l) h =
-    stays_if name (not (is_for l i)) _ _ (stays_by_record w e said.NotAddressed name h)
-    (stays_if name (is_stopped w i) _ _ (stays_by_record w e said.IsStopped name h)
-    (stays_by_step w e i name (hear_packet (w.nodes i) l.packet)
-    (λ k. stays_by_changes (hears l.packet) (w.nodes i) (hear_packet (w.nodes i) l.packet).node tt (hearing_has_effects (w.nodes i) l.packet).changes k) h))
-
-stays_by_event : (w : World) (e : Event) (name : ℕ) → IsTickOrHearing e → Stays (w.nodes name) → Stays ((happens w e).nodes name)
-unfolding happens
-stays_by_event w e name (gathering.ticks place) h =
-    let i = acting_name w (event_at place Act.Tick) in
-    stays_if name (is_stopped w i) _ _ (stays_by_record w (event_at place Act.Tick) said.IsStopped name h)
-    (stays_by_step w (event_at place Act.Tick) i name (step (w.nodes i) does.Tick)
-    (λ k. stays_by_changes (calls does.Tick) (w.nodes i) (step (w.nodes i) does.Tick).node tt (steps_have_effects (w.nodes i) does.Tick).changes k) h)
-stays_by_event w e name (gathering.hears place number) h =
-    stays_by_letter w (event_at place (Act.Hear number)) (acting_name w (event_at place (Act.Hear number))) name (letter_at w.letters number) h
-
-pub nobody_leaves_by_events : (es : List Event) (w : World) (name : ℕ) → All IsTickOrHearing es → (w.nodes name).leaving ≡ false → ((world_after_events w es).nodes name).leaving ≡ false
+pub nobody_leaves_by_other_events : (es : List Event) (w : World) (name : ℕ) → All HasNoLeaveAct es → (w.nodes name).leaving ≡ false → ((world_after_events w es).nodes name).leaving ≡ false
 unfolding world_after_events
-nobody_leaves_by_events [] w name such h = h
-nobody_leaves_by_events (e ∷ es) w name such h =
-    nobody_leaves_by_events es (happens w e) name (All-tail IsTickOrHearing e es such) (stays_by_event w e name (All-head IsTickOrHearing e es such) h)
+nobody_leaves_by_other_events [] w name plain h = h
+nobody_leaves_by_other_events (e ∷ es) w name plain h =
+    nobody_leaves_by_other_events es (happens w e) name (All-tail HasNoLeaveAct e es plain)
+    (stays_by_event w e (happens w e) name (All-head HasNoLeaveAct e es plain) (events_have_effects w e) h)
+
+-- so by ticks and hearings
+pub nobody_leaves_by_events : (es : List Event) (w : World) (name : ℕ) → All IsTickOrHearing es → (w.nodes name).leaving ≡ false → ((world_after_events w es).nodes name).leaving ≡ false
+nobody_leaves_by_events es w name such h = nobody_leaves_by_other_events es w name (All-weaker IsTickOrHearing HasNoLeaveAct one es such) h
+  where
+    one : (e : Event) → IsTickOrHearing e → HasNoLeaveAct e
+    one e (gathering.ticks place) = tt
+    one e (gathering.hears place number) = tt

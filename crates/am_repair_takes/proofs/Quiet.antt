@@ -272,10 +272,12 @@ leading_changes rules r taken w last total q m n by calm tells none few long lis
 
 -- ---- who asks, and what was sent
 
--- a tick or a take, or a letter
+-- a tick, a take, a reset or a giving up, or a letter
 abbrev pub IsMild : Cause → Type 0
 IsMild (calls does.Tick) = Unit {0}
 IsMild (calls does.Take) = Unit {0}
+IsMild (calls (does.Reset least resilience)) = Unit {0}
+IsMild (calls (does.GiveUp name)) = Unit {0}
 IsMild (calls event) = ⊥
 IsMild _ = Unit {0}
 
