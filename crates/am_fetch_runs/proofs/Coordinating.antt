@@ -1,10 +1,10 @@
 -- Where a lawful run ends, a coordinator whose ballot fetches may follow the best vote's name.
 use Rattle.am_fetch_runs.proofs.Words.{◌≡◌, inl, inr, ℕ, ◌+◌, ◌-◌, ◌<◌, ◌≤◌, ◌==◌, nat_lt, true, false, List, [], ◌∷◌, ◌++◌, length, take, slice_get, None, Some, refl, sym, ap, ◌∙◌, subst, arith, nat_tests}
-use Rattle.am_fetch_runs.proofs.Words.{View, Rules, Image, Stamp, Entry, has, blank, log_image_at, log_entry_at, stamps_are_equal, stamp_is_less, split_on_bool, both_of_and, Node, top, view, image_of_node, is_member, World, run, is_stopped}
+use Rattle.am_fetch_runs.proofs.Words.{View, Rules, Image, Stamp, Entry, has, blank, log_image_at, log_entry_at, stamps_are_equal, stamp_is_less, split_on_bool, Node, top, view, image_of_node, is_member, World, run, is_stopped}
 use Rattle.am_fetch_runs.proofs.Words.{IsGoodList, IsBeginningOf, is_member_at_end, key_of_stamp, stamp_of_list, image_of_list, beginning_of_good_is_good, shorter_beginning_begins_longer, view_after_pushed_view, name_of_view_is_byte, lowest_name_or_zero}
 use Rattle.am_fetch_runs.proofs.Words.{view_key_grows_along_list, image_of_whole_list, length_of_whole_list, image_at_of_whole_list, Group, chain_of, Following, GroupKeeps, IsUp, group_run_is_kept, run_trims_only_taken, names_hold_in_runs}
-use Rattle.am_fetch_runs.proofs.Words.{key_is_less_for_lesser_stamp, stamp_eq_gives_equality, member_status_has_log, member_has_not_departed, taken_front_begins_list, length_of_taken_list, begins_push_next_entry}
-use Rattle.std.specs.Prelude.{◌≢◌, ◌⊎◌, not}
+use Rattle.am_fetch_runs.proofs.Words.{key_is_less_for_lesser_stamp, stamp_eq_gives_equality, member_has_not_departed, taken_front_begins_list, length_of_taken_list, begins_push_next_entry}
+use Rattle.std.specs.Prelude.{◌≢◌, not}
 use Rattle.am_base.specs.declared.image.Vote.{Vote}
 use Rattle.am_base.specs.declared.entry.GroupView.{GroupView}
 use Rattle.am_base.specs.Lists.{fits, row_of_name, members_of_image}
@@ -35,7 +35,7 @@ use Rattle.am_refinement.specs.States.{VotesStand}
 use Rattle.am_refinement.proofs.Votes.{open_ballot_is_undecided}
 use Rattle.am_refinement.proofs.Entries.{stamps_of_equal_keys}
 use Rattle.am_refinement.proofs.Parts.{entry_at_of_whole_list}
-use Rattle.std.proofs.lemmas.Bool.{cases_lt, false_from_ne_true}
+use Rattle.std.proofs.lemmas.Bool.{false_from_ne_true}
 use Rattle.am_ballot_laws.specs.Following.{vote_at, BestIs, MayFollow, MayFollowVoter, LooksAtWhole, fetching_ballot}
 use Rattle.am_fetch_runs.specs.Events.{events_of_exchanges}
 use Rattle.am_fetch_runs.specs.Ballots.{FetchesFromVoter, CoordinatorsMayFollow, FetchingBallotsEnd}
@@ -236,7 +236,7 @@ module _ (rules : Rules) (w : World) (s : Group) (voter name : ℕ) (b : Ballot)
   missing : top c < top p
   missing =
       let short = lesser_vote_has_shorter_list lc lp (own_vote c) best.vote good_c begins_c begins_p (names_ voter best.vote shown_p).1 viewed_c (viewed_p ∙ sym best_view) long_c
-          (long_p ∙ sym best_top) (is_best.own_first other) in
+      (long_p ∙ sym best_top) (is_best.own_first other) in
       let x = long_c in
       let y = long_p in
       omega arith

@@ -1,7 +1,7 @@
 -- What the order of votes tells of the lists that they were made of.
-use Rattle.am_fetch_runs.proofs.Words.{◌≡◌, inl, inr, ℕ, ◌<◌, true, nat_lt, List, length, ap, subst, sym, ◌∙◌, arith, nat_tests, split_on_bool, both_of_and, Entry, Stamp, stamp_is_less, stamps_are_equal}
+use Rattle.am_fetch_runs.proofs.Words.{◌≡◌, inl, inr, ◌<◌, true, nat_lt, List, length, ap, subst, arith, nat_tests, split_on_bool, both_of_and, Entry, Stamp, stamp_is_less, stamps_are_equal}
 use Rattle.am_fetch_runs.proofs.Words.{IsGoodList, IsBeginningOf, key_of_stamp, stamp_of_list, shorter_beginning_begins_longer, name_of_view_is_byte, view_key_grows_along_list, key_is_less_for_lesser_stamp, stamp_eq_gives_equality}
-use Rattle.std.specs.Prelude.{◌⊎◌, ◌*◌}
+use Rattle.std.specs.Prelude.{◌⊎◌}
 use Rattle.std.proofs.lemmas.Bool.{cases_lt}
 use Rattle.am_base.specs.declared.image.Vote.{Vote}
 use Rattle.am_base.specs.Votes.{vote_is_less}

@@ -1,5 +1,5 @@
 -- By events whose act isn't a Leave nobody comes to leave.
-use Rattle.am_repair.proofs.RepairWords.{◌≡◌, ℕ, ◌==◌, true, false, List, [], ◌∷◌, ap, ◌∙◌, subst, All, All-head, All-tail, split_on_bool, eqb-true}
+use Rattle.am_repair.proofs.RepairWords.{◌≡◌, ℕ, ◌==◌, false, List, [], ◌∷◌, ap, ◌∙◌, subst, All, All-head, All-tail, split_on_bool, eqb-true}
 use Rattle.am_repair.proofs.RepairWords.{Outcome, Event, Act, Node, World, happens, world_after_events, world_with_step, world_with_record}
 use Rattle.am_repair.proofs.RepairWords.{Cause, calls, IsCause, Change, Changes, no_change, changed, refreshes, settles, asks_to_leave, acting_name, events_have_effects}
 use Rattle.am_repair.proofs.RepairWords.{refresh_rests_with_list, settle_changes_only_sends, Ballot, BallotVerdict, LooksAtBallot, looks, closes}

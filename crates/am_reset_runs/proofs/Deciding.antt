@@ -1,12 +1,11 @@
 -- A ballot that has learned all that it needs decides a view that its members may come to, unless its View doesn't fit.
-use Rattle.am_reset_runs.proofs.Words.{◌≡◌, inl, inr, ◌⊎◌, ℕ, ◌+◌, ◌-◌, ◌<◌, ◌==◌, ◌&&◌, not, nat_lt, true, false, if◌then◌else◌, length, Some, refl, sym, ap, ◌∙◌, subst, arith, nat_tests, split_on_bool, eqb-true}
+use Rattle.am_reset_runs.proofs.Words.{◌≡◌, inl, inr, ◌⊎◌, ℕ, ◌+◌, ◌-◌, ◌<◌, ◌==◌, ◌&&◌, not, nat_lt, true, false, length, refl, sym, ap, ◌∙◌, subst, arith, nat_tests, split_on_bool, eqb-true}
 use Rattle.am_reset_runs.proofs.Words.{has, size, Stamp, stamp_is_less, stamps_are_equal, Log, top_of_log, image_of_log, members_of_image, Image, Node, Ballot, BallotVerdict, top, view, members, image_of_node, is_member}
-use Rattle.am_reset_runs.proofs.Words.{refresh_at_end, end_refresh_rests_with_list, World, current, need_set_of, need_set_without_given_up, decide, HasLearned, HasNoRoom, place_of_name, life_of_name}
+use Rattle.am_reset_runs.proofs.Words.{refresh_at_end, end_refresh_rests_with_list, World, current, need_set_of, need_set_without_given_up, decide, HasNoRoom, place_of_name, life_of_name}
 use Rattle.am_reset_runs.proofs.Parts.{HasLearnedAll, IsReady, TrimsTaken}
-use Rattle.std.specs.Prelude.{List, ◌++◌, ◌∷◌, slice_index, slice_index_or}
+use Rattle.std.specs.Prelude.{List, slice_index, slice_index_or}
 use Rattle.std.proofs.Common.{length-append}
 use Rattle.std.proofs.lemmas.Bool.{eq-eqb}
-use Rattle.am_base.specs.declared.entry.Entry.{Entry}
 use Rattle.am_base.specs.declared.entry.Entry.TheVariants.{View}
 use Rattle.am_base.specs.declared.entry.GroupView.{GroupView}
 use Rattle.am_base.specs.declared.outcome.Outcome.TheVariants as said
@@ -15,13 +14,13 @@ use Rattle.am_base.specs.Lists.{is_blank_image, row_after_view, blank_row}
 use Rattle.am_base.proofs.Places.{length-by_place}
 use Rattle.am_base.proofs.Requests.{has_member_is_in_row}
 use Rattle.am_base.proofs.Rows.{member_row_has_view_life, mod_sixteen_lt}
-use Rattle.am_model.specs.Node.{is_sequencer, push_entry}
+use Rattle.am_model.specs.Node.{is_sequencer}
 use Rattle.am_model.specs.Ballots.{trim_to_least_taken_by, decided_view, restart_reports, verdict_ending, ballot_with_end}
 use Rattle.am_model.proofs.Sets.{set_with_name_has_size, passing_name_is_in_those}
 use Rattle.am_step_laws.specs.Looks.{decided_view_node}
 use Rattle.am_step_laws.proofs.Ballots.{image_after_view_names_it}
 use Rattle.am_step_laws.proofs.Resets.{stamp_eq_of_itself}
-use Rattle.am_step_laws.proofs.Rests.{RestsWithWholeList, is_sequencer_after_rest}
+use Rattle.am_step_laws.proofs.Rests.{RestsWithWholeList}
 use Rattle.am_step_laws.proofs.Says.{image_of_pushed_entry}
 use Rattle.am_step_laws.proofs.Stamps.{stamp_not_below_itself}
 use Rattle.am_ballot_laws.proofs.Ending.{learned_ballots_decide}

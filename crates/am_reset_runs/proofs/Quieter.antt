@@ -1,5 +1,5 @@
 -- While one place resets and gives up names, and all places tick and hear, nobody comes to ask, to leave, or to stop.
-use Rattle.am_reset_runs.proofs.Words.{◌≡◌, ℕ, true, false, refl, List, ap, sym, ◌∙◌, All, Event, World, is_stopped, world_after_events, IsOfReset, resets, gives_up, spreads}
+use Rattle.am_reset_runs.proofs.Words.{◌≡◌, ℕ, false, refl, List, ap, sym, ◌∙◌, All, Event, World, is_stopped, world_after_events, IsOfReset, resets, gives_up, spreads}
 use Rattle.std.proofs.lemmas.List.Elements.{All-weaker}
 use Rattle.am_fetch_runs.specs.Gathering.{IsTickOrHearing}
 use Rattle.am_fetch_runs.specs.Gathering as gathering

@@ -1,17 +1,15 @@
 -- Where a run that is lawful until the last stop ends, a member that may reset is a member by each list that votes more than its own.
-use Rattle.am_reset_runs.proofs.Words.{◌≡◌, ℕ, ◌<◌, true, sym, ap, ◌∙◌, subst, arith, List, length, Rules, MayFound, has, Stamp, stamp_is_less, Image, members_of_image, Event, Node, top, view, members}
+use Rattle.am_reset_runs.proofs.Words.{◌≡◌, ℕ, ◌<◌, true, sym, ap, ◌∙◌, subst, arith, List, length, Rules, MayFound, has, Stamp, Image, members_of_image, Event, top, view, members}
 use Rattle.am_reset_runs.proofs.Words.{World, run, vote_is_less, own_vote, MayVoteFor, MayReset}
 use Rattle.am_reset_runs.proofs.Parts.{VotersAreSound}
-use Rattle.am_fetch_runs.proofs.Words.{IsGoodList, IsBeginningOf, is_member_at_end, stamp_of_list, image_of_list, shorter_beginning_begins_longer, name_of_view_is_byte, lowest_name_or_zero, image_of_whole_list, length_of_whole_list}
+use Rattle.am_fetch_runs.proofs.Words.{IsGoodList, IsBeginningOf, is_member_at_end, stamp_of_list, shorter_beginning_begins_longer, name_of_view_is_byte, lowest_name_or_zero, image_of_whole_list, length_of_whole_list}
 use Rattle.am_fetch_runs.proofs.Words.{Group, chain_of, Following, GroupKeeps, IsUp, group_run_is_kept, run_trims_only_taken, names_hold_in_runs, member_has_not_departed, LawfulUntilLastStop, some_group_follows_until_last_stop}
 use Rattle.am_fetch_runs.proofs.Behind.{running_member_is_up}
 use Rattle.am_fetch_runs.proofs.Votes.{lesser_vote_has_shorter_list}
-use Rattle.am_base.specs.declared.entry.Entry.{Entry}
 use Rattle.am_base.proofs.Members.{member_of_both_is_between}
-use Rattle.am_step_laws.proofs.Trimming.TakenRuns.{WorldTrimsOnlyTaken}
 use Rattle.am_refinement.specs.Standing.{NameStands}
 
-module _ (rules : Rules) (w : World) (s : Group) (c : ℕ) (old : Following rules w s) (laws : WorldTrimsOnlyTaken rules w) (may : MayReset w c) where
+module _ (rules : Rules) (w : World) (s : Group) (c : ℕ) (old : Following rules w s) (may : MayReset w c) where
   kept : GroupKeeps s
   kept = group_run_is_kept rules.founders (lowest_name_or_zero rules.founders) rules.resilience s old.group
 
@@ -54,7 +52,7 @@ module _ (rules : Rules) (w : World) (s : Group) (c : ℕ) (old : Following rule
   member_by_better_vote name h less =
       let own = may.itself in
       let short = lesser_vote_has_shorter_list (s.node c).list (s.node name).list (own_vote (w.nodes c)) (own_vote (w.nodes name)) (good c own) (begins c own) (begins name h)
-          (view_has_small_name name h) (viewed c own) (viewed name h) (long c own) (long name h) less in
+      (view_has_small_name name h) (viewed c own) (viewed name h) (long c own) (long name h) less in
       let front = shorter_beginning_begins_longer (begins c own) (begins name h) (omega arith) in
       sym (listed name c h) ∙ member_of_both_is_between c kept.views.good front (begins name h) (listed c c own ∙ may.listed) itself_at_chain
 
@@ -65,7 +63,7 @@ voters_are_sound rules events c may until resets =
     let laws = run_trims_only_taken rules events may in
     record {
       who = (names_hold_in_runs rules events may).who;
-      small = λ name h. view_has_small_name rules w f.0 c f.1 laws resets name h;
+      small = λ name h. view_has_small_name rules w f.0 c f.1 resets name h;
       high = λ name h. (laws.blanks.base.each name h.current_.small).balloted.high;
-      better = λ name h less. member_by_better_vote rules w f.0 c f.1 laws resets name h less;
+      better = λ name h less. member_by_better_vote rules w f.0 c f.1 resets name h less;
     }
