@@ -113,7 +113,7 @@ module _ (v : World) (place c : ℕ) (m : Node) (b : Ballot) (now : current v pl
     ready name there =
         let listed = member_after_view_is_in_it (image_of_node m) (top m + 1) new name (omega arith) (ap (λ (i : Image). has (members_of_image i) name) (sym image_is) ∙ there) in
         split_on_bool (name == c)
-        (λ t. subst (λ i. IsReady v i b.stamp) (sym (eqb-true name c t)) (record { current_ = h.current_; member_ = member; stays = h.stays; promise = promised }))
+        (λ t. subst (λ i. IsReady v i b.stamp) (sym (eqb-true name c t)) (record { current_ = h.current_; member_ = member; stays = h.stays; come = h.come; promise = promised }))
         (λ f. h.ready name listed f)
 
     may_gather : MayGather v c
@@ -125,7 +125,7 @@ module _ (v : World) (place c : ℕ) (m : Node) (b : Ballot) (now : current v pl
             current_ = r.current_;
             member_ = r.member_;
             promised = ap (λ (u : Stamp). stamp_is_less u (v.nodes name).core.promise) (viewed ∙ sym r.promise) ∙ stamp_not_below_itself (v.nodes name).core.promise;
-            trimmed = takes name r.current_ r.member_ r.stays;
+            trimmed = takes name r.current_ r.member_ r.stays r.come;
           });
     }
 

@@ -45,7 +45,7 @@ module _ (w v : World) (c : ℕ) (sound : VotersAreSound w c) (may : MayReset w 
     pub done : ExchangedSoOften reach.0 v x voter c
     done = exchanges_happen reach.0 v voter c (record { leader = now voter shown.may; lagger = now c may.itself; differ = shown.other })
 
-    abbrev b2 : Ballot
+    abbrev pub b2 : Ballot
     b2 = fetching_ballot b1 (v.nodes voter).core.who (top (v.nodes voter))
 
     pub looks : LooksAtWhole (v.nodes voter).core.log b2 (x.nodes c)
@@ -54,7 +54,7 @@ module _ (w v : World) (c : ℕ) (sound : VotersAreSound w c) (may : MayReset w 
     rests : RestsAsVoter (v.nodes voter) (x.nodes voter)
     rests = let same = sym (ap (λ (t : TwoNodes). t.sequencer) done.two) in subst (RestsAsVoter (v.nodes voter)) same reach.3
 
-    abbrev whole : Node
+    abbrev pub whole : Node
     whole = looks.whole
 
     who_whole : whole.core.who ≡ c

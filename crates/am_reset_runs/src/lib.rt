@@ -1,2 +1,12 @@
 //! Laws of a whole reset: one member that resets decides a view, and then all that the view's members sent is answered (docs/REPAIR.md).
 #![tactic(auto)]
+
+ghost use Rattle.am_reset_runs.specs.Resetting.{ResetsAreAnswered};
+
+/// In every lawful run in which a member may reset, and nobody who runs asks to join, there are events after which its View has no room, or a view
+/// was just decided, whose members run and don't leave: this member resets with least size 1 and gives up names that have stopped, and members tick
+/// and hear. Then there are ticks and hearings after which so many rounds in which applications take, and any more, have all answered that the
+/// view's members sent.
+pub fn resets_are_answered()
+    ensures { ResetsAreAnswered }
+{}

@@ -1,0 +1,159 @@
+-- A reset ends with a view whose members have all that they sent answered, or its View has no room.
+use Rattle.am_reset_runs.proofs.Words.{◌≡◌, ◌⊎◌, inl, inr, ℕ, ◌+◌, ◌-◌, ◌<◌, ◌≤◌, ◌==◌, nat_lt, true, false, List, ◌++◌, refl, sym, ap, ◌∙◌, subst, arith, All, All-append, split_on_bool, Rules, MayFound, place_of_name, Event, Node, Ballot, is_member}
+use Rattle.am_reset_runs.proofs.Words.{World, current, is_stopped, run, start, world_after_events, runs_go_on, best_vote_for_ballot, need_set_of, need_set_without_given_up, HasLearned, decide, end_refresh_rests_with_list, Vote, size, top, MayVoteFor, MayReset, IsOfReset, HasNoRoom, ResetEnds, ResetsAreAnswered}
+use Rattle.am_lawful_runs.proofs.Spared.{LawfulUntilLastStop, lawful_is_until_last_stop, goes_on_without_stops}
+use Rattle.am_group_defs.specs.Lawful.{lawful_front}
+use Rattle.am_repair.proofs.Repairable.RepairedWords.{names_hold_in_runs, member_has_not_departed}
+use Rattle.am_fetch_runs.specs.Ballots.{FetchesFromVoter}
+use Rattle.am_fetch_runs.proofs.Gathering.{exchanges_are_of_such}
+use Rattle.am_fetch_runs.proofs.Coordinating.{coordinators_may_follow_until_last_stop}
+use Rattle.am_model.specs.Ballots.{trim_to_least_taken_by}
+use Rattle.am_ballot_laws.specs.Following.{MayFollowVoter}
+use Rattle.am_trim_laws.specs.Trims.{HasComeToJoin}
+use Rattle.am_trim_laws.proofs.Taken.{members_have_taken_trims_until_last_stop}
+use Rattle.am_repair_takes.specs.Resting.{NobodyAsks}
+use Rattle.am_repair_fetches.specs.Rest.{IsDecidedAnew}
+use Rattle.am_repair_fetches.proofs.Answered.{decided_views_are_answered_until_last_stop}
+use Rattle.am_reset_runs.proofs.Parts.{VotersAreSound, HasVoted, VotesCome, HasLearnedAll, TrimsTaken}
+use Rattle.am_reset_runs.proofs.Sound.{voters_are_sound}
+use Rattle.am_reset_runs.proofs.Votes.{VotesEnd, votes_end_after_reset, spread_events}
+use Rattle.am_reset_runs.proofs.Heard as heard
+use Rattle.am_reset_runs.proofs.Fetched as fetched
+use Rattle.am_reset_runs.proofs.Come.{come_stays}
+use Rattle.am_reset_runs.proofs.Deciding.{decided_or_no_room}
+use Rattle.am_reset_runs.proofs.Quieter.{reset_stops_nobody, stopped_stays_in_reset, nobody_asks_after_reset, nobody_leaves_after_reset}
+
+-- a look of a Member that has learned all leaves it a Member
+look_keeps_status : (m : Node) (b : Ballot) → HasLearned m b → (decide m b).node.status ≡ m.status
+unfolding decide
+look_keeps_status m b h =
+    let names = need_set_without_given_up b (need_set_of m b) in
+    split_on_bool (nat_lt (size names) b.least)
+    (λ t. rw (h.needed, h.all, h.own, t) refl)
+    (λ f. split_on_bool (nat_lt (m.core.rules.window + 16 - size names) (top m + 1 - (trim_to_least_taken_by m b names).core.base))
+    (λ t. rw (h.needed, h.all, h.own, f, t) refl)
+    (λ g. rw (h.needed, h.all, h.own, f, g) refl))
+
+looked_member : {v : World} {c : ℕ} {m : Node} {b : Ballot} → HasLearnedAll v c m b → is_member (v.nodes c).status ≡ true
+looked_member {m = m} {b = b} h = ap (λ (n : Node). is_member n.status) h.looked ∙ ap is_member (end_refresh_rests_with_list (decide m b).node).rests.status
+    ∙ ap is_member (look_keeps_status m b h.learned) ∙ h.listed
+
+module _ (rules : Rules) (events : List Event) (place : ℕ) (may : MayFound rules) (low : place < 16) (lawful : lawful_front rules events ≡ events)
+    (reset : MayReset (run rules events) (current (run rules events) place)) (asks : NobodyAsks (run rules events)) where
+  abbrev w : World
+  w = run rules events
+
+  abbrev c : ℕ
+  c = current w place
+
+  same_place : place_of_name c ≡ place
+  same_place = omega arith
+
+  sound : VotersAreSound w c
+  sound = voters_are_sound rules events c may (lawful_is_until_last_stop rules events lawful) reset
+
+  -- ---- a run that goes on by events of the reset
+
+  module _ (more : List Event) (such : All (IsOfReset place) more) where
+    abbrev v : World
+    v = world_after_events w more
+
+    goes_on : run rules (events ++ more) ≡ v
+    goes_on = runs_go_on (start rules) events more
+
+    spared : LawfulUntilLastStop rules (events ++ more)
+    spared = goes_on_without_stops rules events more (lawful_is_until_last_stop rules events lawful) (reset_stops_nobody place more such)
+
+    whose : (name : ℕ) → (v.nodes name).core.who ≡ name
+    whose name = subst (λ (x : World). (x.nodes name).core.who ≡ name) goes_on ((names_hold_in_runs rules (events ++ more) may).who name)
+
+    stays : (v.nodes c).leaving ≡ false
+    stays = nobody_leaves_after_reset place more w c such reset.itself.stays
+
+    come : (name : ℕ) → MayVoteFor w c name → HasComeToJoin (v.nodes name)
+    come name x = come_stays more w name x.member_ x.come
+
+    trims : (q : ℕ) → q < 256 → is_member (v.nodes q).status ≡ true → is_stopped v q ≡ false → TrimsTaken v q
+    trims q few member runs = subst (λ (x : World). is_member (x.nodes q).status ≡ true → is_stopped x q ≡ false → TrimsTaken x q) goes_on
+        (λ member_ runs_ name current_ listed remains come_.
+        members_have_taken_trims_until_last_stop rules (events ++ more) q name may spared few (member_has_not_departed ((run rules (events ++ more)).nodes q).status member_) runs_
+        (record { small = current_.small; member_ = listed; runs = current_.runs; stays = remains }) come_) member runs
+
+    -- a ballot that has learned all ends so
+    ends : (m : Node) (b : Ballot) → HasLearnedAll v c m b → is_member (v.nodes c).status ≡ true → ResetEnds rules (events ++ more) place
+    ends m b h member =
+        let lives = (stopped_stays_in_reset place more w such).lives in
+        let same : current v place ≡ c = ap (λ (f : ℕ → ℕ). current (record w { lives = f }) place) lives in
+        elim (decided_or_no_room v place c m b same h (trims c h.current_.small member h.current_.runs)) [
+          | inl none ↦ inl (subst (λ (x : World). HasNoRoom (x.nodes (current x place))) (sym goes_on) (subst (λ i. HasNoRoom (v.nodes i)) (sym same) none))
+          | inr decided ↦
+              (let there : IsDecidedAnew (run rules (events ++ more)) place = subst (λ (x : World). IsDecidedAnew x place) (sym goes_on) decided in
+              let quiet : NobodyAsks (run rules (events ++ more)) = subst NobodyAsks (sym goes_on) (nobody_asks_after_reset place more w such asks) in
+              inr (there, decided_views_are_answered_until_last_stop rules (events ++ more) place may low spared there quiet))
+        ]
+
+  -- ---- after the votes
+
+  module _ (z : VotesEnd w c sound reset w) (such : All (IsOfReset place) z.more) where
+    abbrev u : World
+    u = world_after_events w z.more
+
+    abbrev Answers : Type 0
+    Answers = (more : List Event) × All (IsOfReset place) more × ResetEnds rules (events ++ more) place
+
+    learned : ((best_vote_for_ballot z.node z.ballot).by == z.node.core.who) ≡ true → Answers
+    learned own =
+        let h = heard.learned_all w u c sound reset z.node z.ballot z.come z.nobody (stays z.more such) (come z.more such) own in
+        (z.more, such, ends z.more such z.node z.ballot h (looked_member h))
+
+    module _ (other : ((best_vote_for_ballot z.node z.ballot).by == z.node.core.who) ≡ false) where
+      abbrev voter : ℕ
+      voter = (best_vote_for_ballot z.node z.ballot).by
+
+      abbrev b1 : Ballot
+      b1 = heard.b1 w u c sound reset z.node z.ballot z.come z.nobody (stays z.more such) (come z.more such) other
+
+      voted : HasVoted w u c voter (best_vote_for_ballot z.node z.ballot).vote
+      voted = heard.has_voted w u c sound reset z.node z.ballot z.come z.nobody (stays z.more such) (come z.more such) other
+
+      fetches : FetchesFromVoter u voter c b1
+      fetches =
+          let at = heard.current_of_voter w u c sound reset z.node z.ballot z.come z.nobody (stays z.more such) (come z.more such) voter voted.may in
+          heard.fetches_from_voter w u c sound reset z.node z.ballot z.come z.nobody (stays z.more such) (come z.more such) other
+          (trims z.more such voter at.small (ap is_member voted.status ∙ voted.may.member_) at.runs)
+
+      follow : MayFollowVoter (u.nodes voter) (u.nodes c) (best_vote_for_ballot (u.nodes c) b1).vote b1
+      follow = subst (λ (x : World). FetchesFromVoter x voter c b1 → MayFollowVoter (x.nodes voter) (x.nodes c) (best_vote_for_ballot (x.nodes c) b1).vote b1) (goes_on z.more such)
+          (coordinators_may_follow_until_last_stop rules (events ++ z.more) voter c b1 may (spared z.more such)) fetches
+
+      abbrev best : Vote
+      best = (best_vote_for_ballot (u.nodes c) b1).vote
+
+      abbrev further : List Event
+      further = fetched.more w u c sound reset z.node z.ballot z.come z.nobody (stays z.more such) other (whose z.more such) (come z.more such) best follow
+
+      all_such : All (IsOfReset place) (z.more ++ further)
+      all_such = All-append (IsOfReset place) z.more further such (spread_events place further (exchanges_are_of_such _ u voter c))
+
+      fetched_all : Answers
+      fetched_all =
+          let whole : world_after_events w (z.more ++ further) ≡ world_after_events u further = runs_go_on w z.more further in
+          let leaves : ((world_after_events u further).nodes c).leaving ≡ false = subst (λ (x : World). (x.nodes c).leaving ≡ false) whole (stays (z.more ++ further) all_such) in
+          let h = fetched.learned_by_fetching w u c sound reset z.node z.ballot z.come z.nobody (stays z.more such) other (whose z.more such) (come z.more such) best follow
+          (come_stays further u) leaves in
+          let m = fetched.whole w u c sound reset z.node z.ballot z.come z.nobody (stays z.more such) other (whose z.more such) (come z.more such) best follow in
+          let b = fetched.b2 w u c sound reset z.node z.ballot z.come z.nobody (stays z.more such) other (whose z.more such) (come z.more such) best follow in
+          let there : HasLearnedAll (world_after_events w (z.more ++ further)) c m b = subst (λ (x : World). HasLearnedAll x c m b) (sym whole) h in
+          (z.more ++ further, all_such, ends (z.more ++ further) all_such m b there (looked_member there))
+
+    answers : Answers
+    answers = split_on_bool ((best_vote_for_ballot z.node z.ballot).by == z.node.core.who) learned fetched_all
+
+pub resets_are_answered : ResetsAreAnswered
+resets_are_answered rules events place resilience may low lawful reset asks =
+    let w = run rules events in
+    let c = current w place in
+    let s = sound rules events place may low lawful reset asks in
+    let z = votes_end_after_reset w c s reset resilience in
+    answers rules events place may low lawful reset asks z
+    (subst (λ k. All (IsOfReset k) z.more) (same_place rules events place may low lawful reset asks) z.such)
