@@ -3,3 +3,4 @@ pub mod Gathered
 pub mod Later
 pub mod Unasked
 pub mod Answered
+pub mod Joined

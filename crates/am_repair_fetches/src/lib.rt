@@ -2,6 +2,7 @@
 //! sent is answered (docs/REPAIR.md).
 #![tactic(auto)]
 
+ghost use Rattle.am_repair_fetches.specs.Joined.{DecidedPastJoinAreAnswered, GroupsPastJoinAreRepaired};
 ghost use Rattle.am_repair_fetches.specs.Later.{GroupsAreRepairedLater, GroupsMayBeRepairedLater};
 ghost use Rattle.am_repair_fetches.specs.Rest.{DecidedViewsAreAnswered, SendsAreAnsweredLater};
 
@@ -18,4 +19,10 @@ pub fn groups_are_repaired_later()
 pub fn sends_are_answered_later()
     ensures later { SendsAreAnsweredLater }
     ensures decided { DecidedViewsAreAnswered }
+{}
+
+/// Both hold whatever the sequencer trims, if each member of its list has come to its Join.
+pub fn groups_past_join_are_repaired()
+    ensures repaired { GroupsPastJoinAreRepaired }
+    ensures decided { DecidedPastJoinAreAnswered }
 {}
