@@ -19,7 +19,7 @@
 
 use muoswyld_failures::Policy;
 use muoswyld_member::Limits;
-use muoswyld_simulator::plan::{Act, FencedPlan, Sizes};
+use muoswyld_simulator::plan::{Act, Faults, FencedPlan, NextList, Sizes};
 use muoswyld_simulator::{run, Failure, Fenced, Plan, Report};
 use std::sync::atomic::{AtomicU64, Ordering};
 use std::thread;
@@ -75,6 +75,15 @@ fn sum(reports: &[Report]) -> Fenced {
     all
 }
 
+/// The most of a hundred runs that may be void. Where programs end members, 35 of a hundred are (1,043 of the seeds 1 to 3,000), since a program
+/// ends a member that runs, too. Of 150 such runs 52 are void, with a standard deviation of 6.
+fn most_void(policy: Policy) -> u64 {
+    match policy {
+        Policy::Command => 50,
+        _ => 33,
+    }
+}
+
 /// Runs seeds of a policy, and looks whether enough happened in them.
 fn many_seeds(what: &str, fenced: &FencedPlan) {
     let ran = run_all(|seed| Plan::generations(seed, fenced.clone()));
@@ -92,7 +101,8 @@ fn many_seeds(what: &str, fenced: &FencedPlan) {
     assert!(all.lists > count && all.closed > all.lists);
     // where they are told nobody is given up that runs
     assert!(all.given_up > count / 4 || fenced.policy == Policy::Told);
-    assert!((void as u64) < count / 3 && delivered as u64 > count * 50);
+    assert!(void as u64 * 100 < count * most_void(fenced.policy));
+    assert!(delivered as u64 > count * 50);
 }
 
 #[test]
@@ -162,19 +172,71 @@ fn a_list_ends_by_itself_before_its_lives_or_numbers_run_out() {
     assert!(crashed > 0, "nothing happened");
 }
 
-/// Seed 2851: 1 is behind, has refused 0, and 2 came back in that list, so 2 doesn't vote there. Seed 2468: 4 is behind, 3 has refused 0, and 1 and
-/// 2 are back in the next list. So 0 never acts in the list again, which has ended, and no majority can give it up there. It leaves the list, and
-/// whoever is behind ends.
+/// When the list of [`about_a_refusal`] ends, and for how long 1 and those that don't vote are apart after that, in microseconds.
+const ENDS_AT: u64 = 1_000_000;
+const APART: u64 = 5_000_000;
+
+/// Of five members 0, 1 and 2 vote. Their list ends while 1 doesn't hear 0: so 1 is behind. Then 2 doesn't hear 0 either, and after a silence, which
+/// is 264 milliseconds, both suspect it. 1 hears that 2 suspects it, and refuses it. 2 doesn't hear 1, and so it refuses nobody. It crashes, and
+/// comes back in the next list. All are connected again after the lease that 2 gave 0 at last, but for 1 and those that don't vote.
+fn about_a_refusal(seed: u64, at_bounds: bool) -> Plan {
+    let mut fenced = FencedPlan::lease(100);
+    fenced.drift = if at_bounds { fenced.drift } else { 0 };
+    (fenced.at_bounds, fenced.stalls, fenced.lost_disks) = (at_bounds, 0, 0);
+    fenced.voters = Some(0b111);
+    let mut plan = Plan::generations(seed, fenced);
+    plan.founding.founders = "0,1,2,3,4".parse().expect("names");
+    plan.founding.resilience = 2;
+    (plan.sizes, plan.slow, plan.ghosts) = (Sizes::Small, 0, false);
+    (plan.faults, plan.succeed_at) = (Faults::NONE, None);
+    let next = NextList {
+        window: 64,
+        less: 0,
+        voters: 0,
+        tries: 0,
+    };
+    let (back, twin) = (Some(5_000), false);
+    let crash = Act::Crash { back, twin };
+    let mut acts = vec![
+        (ENDS_AT, 0, Act::Succeed(next)),
+        (ENDS_AT + 325_000, 2, crash),
+    ];
+    let mut cut = |from: u8, to: u8, at: u64, until: u64| {
+        let micros = until - at;
+        acts.push((at, from, Act::Cut { to, micros }));
+    };
+    let connected = ENDS_AT + 545_000;
+    cut(0, 1, ENDS_AT - 1_000, connected);
+    cut(0, 2, ENDS_AT + 30_000, connected);
+    // before 1 suspects 0
+    let unheard = ENDS_AT + 235_000;
+    cut(1, 2, unheard, connected);
+    for other in [3, 4] {
+        cut(1, other, unheard, ENDS_AT + APART);
+        cut(other, 1, ENDS_AT + 300_000, ENDS_AT + APART);
+    }
+    acts.sort_by_key(|(at, place, _)| (*at, *place));
+    (plan.acts, plan.ends) = (acts, ENDS_AT + APART);
+    plan
+}
+
+/// 1 has refused 0, and 2 is in the next list for good. So 0 never acts in the list again, which has ended, and no majority can give it up there. It
+/// leaves the list, and 1 ends, which waited for it. In few runs that doesn't come about, as where a disk is slow or fails.
 #[test]
 fn whoever_can_never_act_in_a_list_that_has_ended_leaves_it() {
-    let lease = FencedPlan::lease(100);
-    let mut at_bounds = lease.clone();
-    at_bounds.at_bounds = true;
-    for (seed, fenced) in [(2851, lease), (2468, at_bounds)] {
-        let report = run(&Plan::generations(seed, fenced));
-        let report = report.unwrap_or_else(|failure| panic!("{failure}"));
-        assert!(report.fenced.lists_lost > 0, "{}", report.text);
-        assert_eq!(report.fenced.operated, 0);
+    for at_bounds in [false, true] {
+        let run = |seed| {
+            let report = run(&about_a_refusal(seed, at_bounds));
+            report.unwrap_or_else(|failure| panic!("{failure}")).fenced
+        };
+        let left = |it: &Fenced| it.lists_lost > 0 && it.ended > 0;
+        let goes_on = |it: &Fenced| !it.is_void && it.operated == 0;
+        let runs = (1..=10).map(run);
+        let count = runs.filter(|it| left(it) && goes_on(it)).count();
+        assert!(
+            count >= 5,
+            "clocks at bounds {at_bounds}: {count} of 10 runs"
+        );
     }
 }
 
