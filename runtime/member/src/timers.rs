@@ -14,12 +14,17 @@ const LEAST_RESEND: u64 = 1_000;
 #[derive(Clone, Copy, Debug, Default)]
 pub(crate) struct RoundTrip {
     measured: Option<(u64, u64)>,
+    /// Whether a sample was sure. Before the first one the others may not run yet, and what waits for them is no round trip.
+    is_sure: bool,
 }
 
 impl RoundTrip {
-    /// Adds a sample. One that may be of a later sending counts as four round trips at most.
+    /// Adds a sample. One that may be of a later sending counts as four round trips at most. The first one that is sure takes the place of all
+    /// before it.
     pub(crate) fn measure(&mut self, sample: u64, is_doubtful: bool) {
-        self.measured = Some(match self.measured {
+        let is_first = !is_doubtful && !self.is_sure;
+        self.is_sure |= !is_doubtful;
+        self.measured = Some(match self.measured.filter(|_| !is_first) {
             None => (sample, sample / 2),
             Some((smooth, vary)) => {
                 let sample = if is_doubtful {
@@ -288,5 +293,31 @@ mod tests {
         trip.measure(800, false);
         trip.measure(1_000_000, true);
         assert_eq!(trip.smooth(), Some(700 + 400));
+    }
+
+    #[test]
+    fn the_first_sure_sample_takes_the_place_of_doubtful_ones() {
+        let mut trip = RoundTrip::default();
+        trip.measure(900_000, true);
+        trip.measure(800_000, true);
+        assert_eq!(trip.resend(10_000, 200_000), 200_000);
+        trip.measure(400, false);
+        // 400 and four times its half
+        let resend = trip.resend(10_000, 200_000);
+        assert_eq!((trip.smooth(), resend), (Some(400), 1_200));
+        // 7/8 of 400, and an eighth of 2,400
+        trip.measure(2_400, false);
+        assert_eq!(trip.smooth(), Some(350 + 300));
+    }
+
+    #[test]
+    fn no_later_sample_takes_the_place_of_others() {
+        let mut trip = RoundTrip::default();
+        trip.measure(800, false);
+        trip.measure(1_000_000, true);
+        assert_eq!(trip.smooth(), Some(700 + 400));
+        // 1,100 less the whole part of its eighth, and an eighth of 800
+        trip.measure(800, false);
+        assert_eq!(trip.smooth(), Some(1_100 - 137 + 100));
     }
 }
