@@ -127,10 +127,10 @@ def too_few(tried: Tried) -> list[str]:
     members = tried.group("0", "1", more=("--founders", "0,1", "--least", "2"))
     members.pop("1").kill()
     members["0"].tell("stopped 1")
-    wrong = [] if members["0"].wants("no reset: 1 members run, and a reset goes on with at least 2") else ["too few aren't told"]
+    wrong = [] if members["0"].wants("no reset: 1 member runs, and a reset goes on with at least 2") else ["too few aren't told"]
     time.sleep(1)
     answer = tried.ask("0", "reset 2")
-    if answer != {"error": "1 members are left, of 2 at least"}:
+    if answer != {"error": "1 member is left, of 2 at least"}:
         wrong.append(f"a reset with two is answered {answer}")
     answer = tried.ask("0", "reset 1")
     lines = members["0"].until("2 view 0 r1")

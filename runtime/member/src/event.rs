@@ -1,6 +1,7 @@
 //! What a member is given, and what it answers.
 
 use crate::config::{Founding, StartError};
+use crate::notice::counted;
 use muoswyld::answer::Standing;
 use muoswyld::names::{Name, Names};
 use thiserror::Error;
@@ -223,7 +224,7 @@ pub enum Unsent {
 #[derive(Clone, Copy, Debug, PartialEq, Eq, Error)]
 pub enum NotReset {
     /// Fewer members than the least size are left.
-    #[error("{got} members are left, of {least} at least")]
+    #[error("{}, of {least} at least", counted(*.got as usize, "member is left", "members are left"))]
     TooFew {
         /// How many are left.
         got: u32,

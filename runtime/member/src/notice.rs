@@ -3,6 +3,12 @@
 use crate::event::Notice;
 use std::fmt;
 
+/// A count, with the words for one or those for another number.
+pub(crate) fn counted(count: usize, one: &str, more: &str) -> String {
+    let words = if count == 1 { one } else { more };
+    format!("{count} {words}")
+}
+
 impl fmt::Display for Notice {
     fn fmt(&self, f: &mut fmt::Formatter<'_>) -> fmt::Result {
         match self {
@@ -21,11 +27,13 @@ impl fmt::Display for Notice {
             ),
             Notice::TooFew { running, least } => write!(
                 f,
-                "no reset: {running} members run, and a reset goes on with at least {least}"
+                "no reset: {}, and a reset goes on with at least {least}",
+                counted(*running, "member runs", "members run")
             ),
             Notice::BeyondResilience(stopped) => write!(
                 f,
-                "{stopped} members of a view have stopped, more than its resilience: nothing is claimed of this run from here on"
+                "{} stopped, more than its resilience: nothing is claimed of this run from here on",
+                counted(*stopped, "member of a view has", "members of a view have")
             ),
             Notice::Resets => f.write_str("a member has stopped: this one resets the group"),
             Notice::ResetsStuck => {
@@ -54,5 +62,25 @@ impl fmt::Display for Notice {
                 f.write_str("leaving waits for messages on their way, for a reset, or for another member that leaves")
             }
         }
+    }
+}
+
+#[cfg(test)]
+mod tests {
+    use super::Notice;
+    use crate::event::NotReset;
+
+    #[test]
+    fn one_member_is_told_in_the_singular() {
+        let too_few = |running| Notice::TooFew { running, least: 2 }.to_string();
+        let rest = "and a reset goes on with at least 2";
+        assert_eq!(too_few(1), format!("no reset: 1 member runs, {rest}"));
+        assert_eq!(too_few(0), format!("no reset: 0 members run, {rest}"));
+        let beyond = |stopped| Notice::BeyondResilience(stopped).to_string();
+        assert!(beyond(1).starts_with("1 member of a view has stopped, more"));
+        assert!(beyond(2).starts_with("2 members of a view have stopped, more"));
+        let left = |got| NotReset::TooFew { got, least: 3 }.to_string();
+        assert_eq!(left(1), "1 member is left, of 3 at least");
+        assert_eq!(left(2), "2 members are left, of 3 at least");
     }
 }
