@@ -7,15 +7,12 @@ import pathlib
 import random
 import shutil
 import subprocess
-import sys
 import time
 from collections.abc import Iterator
 
-sys.path.insert(0, str(pathlib.Path(__file__).resolve().parent.parent / "bench" / "peers"))
-
-from kv.resp import Client  # noqa: E402
-from kv.stores import PLACES, Failed, Stores  # noqa: E402
-from network import Network  # noqa: E402
+from kv.resp import Client
+from kv.stores import PLACES, Failed, Stores
+from network import Network
 
 NEWNET = 0x40000000
 # times of the members in milliseconds, and after how many seconds of silence a name is suspected (docs/FAILURES.md, "Choosing times")

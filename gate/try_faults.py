@@ -13,16 +13,11 @@ import subprocess
 import sys
 from collections.abc import Callable
 
+from checks import faults_of
+from clients import Delivered, Record, Sent
 from words import end, words
 
-TOP = pathlib.Path(__file__).resolve().parent.parent
-FOLDER = TOP / "bench" / "faults"
-sys.path[:0] = [str(FOLDER), str(TOP / "bench" / "peers")]
-
-from checks import faults_of  # noqa: E402
-from clients import Delivered, Record, Sent  # noqa: E402
-
-RUN = FOLDER / "run"
+RUN = pathlib.Path(__file__).resolve().parent.parent / "bench" / "faults" / "run"
 # network namespaces can't be made
 NOT_HERE = 3
 TIMES = ["--heartbeat", "50", "--delay", "50", "--lease", "500", "--jobs", "1"]

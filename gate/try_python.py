@@ -87,9 +87,18 @@ def numbers(package: Any) -> list[str]:
     return [] if known == wanted else [f"numbers of the header and of the package differ: {sorted(wanted.items() ^ known.items())}"]
 
 
+def package_of(folder: pathlib.Path) -> Any:
+    """The package of a wheel that is unpacked in a folder, as `import muoswyld` gives it from now on."""
+    init = pathlib.Path(unpacked(folder)["PYTHONPATH"]) / "muoswyld" / "__init__.py"
+    spec = importlib.util.spec_from_file_location("muoswyld", init)
+    package = sys.modules["muoswyld"] = importlib.util.module_from_spec(spec)
+    spec.loader.exec_module(package)
+    return package
+
+
 def same_as_c(folder: pathlib.Path) -> list[str]:
     """The package's structs are those of the header, and so are its calls."""
-    sys.path.insert(0, unpacked(folder)["PYTHONPATH"])
+    package = package_of(folder)
     library = importlib.import_module("muoswyld._library")
     kinds = {"name": library.CName, "names": library.CNames, "position": library.CPosition, "delivery": library.CDelivery, "counts": library.CCounts, "info": library.CInfo}
     kinds |= {"machine": library.CMachine, "answer": library.CAnswer, "service_info": library.CServiceInfo}
@@ -103,7 +112,7 @@ def same_as_c(folder: pathlib.Path) -> list[str]:
         fields = [getattr(struct, field) for field, *_ in struct._fields_]
         wanted += [f"{name}.{field[0]} {known.offset} {known.size}" for field, known in zip(struct._fields_, fields, strict=True)]
     wrong = [f"C has {one}, and Python {other}" for one, other in zip(said, wanted, strict=True) if one != other]
-    wrong += numbers(importlib.import_module("muoswyld"))
+    wrong += numbers(package)
     text = re.sub(r"/\*.*?\*/", "", HEADER.read_text(), flags=re.DOTALL)
     declared = {name: 0 if given == "void" else len(given.split(",")) for name, given in re.findall(r"\bmuoswyld_(\w+)\(([^)]*)\);", text)}
     known = {name: len(given) for name, (_, *given) in library._CALLS.items()}
