@@ -1,20 +1,31 @@
 #!/usr/bin/env python3
 """Tries groups of muoswyldd in network namespaces under faults, by bench/faults: a kill of the sequencer, a split of the network, and several
-faults at once. It tries first that the checks of these runs find what is wrong: logs and answers are changed in each of several ways.
+faults at once. It tries first that the checks of these runs find what is wrong: logs and answers are changed in each of several ways. And it
+tries how runs are planned, and when they end.
 
     python3 gate/try_faults.py
 
-Where network namespaces can't be made it says so, and tries the checks alone.
+Where network namespaces can't be made it says so, and tries all but the runs.
 """
 
 import dataclasses
+import importlib.machinery
+import importlib.util
 import pathlib
+import random
 import subprocess
 import sys
-from collections.abc import Callable
+import tempfile
+from collections.abc import Callable, Iterator
+from contextlib import chdir
+from types import SimpleNamespace
+from typing import Any
 
 from checks import faults_of
 from clients import Delivered, Record, Sent
+from group import LIVES, Group, Kind
+from kinds import ALL, GONE, Fault, directed, expected
+from trial import NOT_WRITTEN, Plan, Result, Trial
 from words import end, words
 
 RUN = pathlib.Path(__file__).resolve().parent.parent / "bench" / "faults" / "run"
@@ -117,6 +128,115 @@ def try_checks() -> list[str]:
     return wrong
 
 
+def program() -> Any:
+    """The functions of bench/faults/run."""
+    spec = importlib.util.spec_from_loader("run", importlib.machinery.SourceFileLoader("run", str(RUN)))
+    module = importlib.util.module_from_spec(spec)
+    spec.loader.exec_module(module)
+    return module
+
+
+def try_folders() -> list[str]:
+    """The folder of kept runs is named from the root: what begins members may be elsewhere."""
+    with tempfile.TemporaryDirectory() as folder, chdir(folder):
+        wanted = str(pathlib.Path.cwd() / "kept")
+        said = [program().options(["--keep", name]).keep for name in ("kept", wanted)]
+    return [f"kept runs are in {one}, and not in {wanted}" for one in said if one != wanted]
+
+
+def try_seeds() -> list[str]:
+    """A seed's run is the same whichever runs are before it."""
+    run = program()
+    alone, all_of_them = (list(run.plans(run.options(["--runs", runs, "--seed", seed]))) for runs, seed in (("1", "7"), ("9", "1")))
+    return [] if alone == [plan for plan in all_of_them if plan.seed == 7] else [f"the run of seed 7 is {alone}, or one of {all_of_them}"]
+
+
+def planned() -> Iterator[tuple[Kind, Fault]]:
+    """Faults of each kind, in each group in which it is tried."""
+    run, draw = program(), random.Random(1)
+    for what in ALL:
+        for policy in run.POLICIES:
+            for members in (3, 4, 5):
+                for kind in run.kinds_for(what, policy, members):
+                    for turn in range(200):
+                        group: Any = SimpleNamespace(sequencer=lambda members=members, turn=turn: turn % members)
+                        yield kind, directed(what, kind, group, draw)
+
+
+def try_sides() -> list[str]:
+    """No more members are hit by a fault that ends them than the group's resilience."""
+    beyond = {f"{kind.told()}: {fault.what}" for kind, fault in planned() if expected(fault, kind) == GONE and len(fault.hit) > kind.resilience}
+    return [f"more are given up than the resilience: {one}" for one in sorted(beyond)]
+
+
+class GoesOn(Exception):
+    """A run goes on with a fault."""
+
+
+class Stub(Trial):
+    """A run of a group that does nothing. A place that is asked says these failures, and its next life that it votes."""
+
+    def __init__(self, kind: Kind, begun: list[int], failures: dict[str, object]) -> None:
+        self.plan, self.draw, self.killed = Plan(kind, "pause", 1, 60.0), random.Random(1), set()
+        self.result = Result(self.plan)
+        said = iter([failures, {"votes": True}])
+        self.group = group = Group.__new__(Group)
+        group.kind, group.begun = kind, begun
+        group.lives = {place: SimpleNamespace(name=str(place)) for place in range(kind.members)}
+        group.status = lambda _: {"failures": next(said)}
+        group.signal = lambda *_: None
+        group.sequencer = lambda: 0
+        self.faults = SimpleNamespace(active=[], tell=lambda _: None, go_on=self.begin)
+
+    def begin(self, *_: object) -> None:
+        """A fault comes, or links change."""
+        raise GoesOn
+
+    def recover(self, what: str) -> None:
+        """It is whole already."""
+
+
+def is_over(run: Callable[[Trial], None], begun: list[int]) -> bool:
+    """Whether a run ends without any fault, where places have begun so many lives."""
+    try:
+        run(Stub(Kind("echo", 3, 3, 1), begun, {}))
+    except GoesOn:
+        return False
+    return True
+
+
+def try_lives() -> list[str]:
+    """A run ends before a place's lives do: a fault may take two."""
+    wrong = []
+    for what, run in (("one kind of fault", Trial.directed), ("faults at random", Trial.at_random)):
+        if not is_over(run, [1, LIVES - 1, 1]):
+            wrong.append(f"a run with {what} goes on with one life left")
+        if is_over(run, [1, LIVES - 2, 1]):
+            wrong.append(f"a run with {what} ends with two lives left")
+    return wrong
+
+
+def try_votes() -> list[str]:
+    """A place whose folder couldn't be written says so, or had nothing to write: others are a majority, and it has refused nobody that is hit."""
+    cases = [
+        (5, NOT_WRITTEN, [], True),
+        (5, None, [], True),
+        (5, None, ["3/2"], True),
+        (5, None, ["3"], False),
+        (5, "its file isn't whole", [], False),
+        (3, NOT_WRITTEN, [], True),
+        (3, None, [], False),
+    ]
+    wrong = []
+    for voters, why, refused, is_right in cases:
+        trial = Stub(Kind("lease", 5, voters, 2), [1] * 5, {"why-no-vote": why, "refused": refused})
+        fault = Fault("full disk", {3}, 1.0, folder=(0, "full disk"))
+        trial.vote_again(fault, {3: trial.group.lives[3]})
+        if is_right == bool(trial.result.wrong):
+            wrong.append(f"one of {voters} voters, with {why} and refused {refused}: {trial.result.wrong}")
+    return wrong
+
+
 def try_runs() -> list[str]:
     """The runs, all at the same time."""
     pipes = {"stdout": subprocess.PIPE, "stderr": subprocess.STDOUT, "text": True}
@@ -133,10 +253,11 @@ def try_runs() -> list[str]:
 def main() -> int:
     """Tries all of it."""
     words(__doc__, 0, 0)
-    wrong = [*try_checks(), *try_runs()]
+    parts = (try_checks, try_folders, try_seeds, try_sides, try_lives, try_votes, try_runs)
+    wrong = [line for part in parts for line in part()]
     for line in wrong:
         print(f"refused: {line}")
-    print(f"gate/try_faults.py: {len(CHANGES)} changes, {len(RUNS)} runs, {len(wrong)} failed")
+    print(f"gate/try_faults.py: {len(CHANGES)} changes, {len(parts) - 2} rules of runs, {len(RUNS)} runs, {len(wrong)} failed")
     return 1 if wrong else 0
 
 
