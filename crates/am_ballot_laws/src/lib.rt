@@ -1,4 +1,4 @@
-//! Laws of ballots: a coordinator fetches what the best vote shows, and then its ballot ends (docs/REPAIR.md).
+//! Laws of ballots: votes come to a coordinator, it fetches what the best vote shows, and then its ballot ends (docs/REPAIR.md).
 #![tactic(auto)]
 
 ghost use Rattle.am_ballot_laws.specs.Fetching.{BallotsFetch, PiecesAreLookedAt, VotersServe};

@@ -66,21 +66,21 @@ module _ (w : World) (c : ℕ) (sound : VotersAreSound w c) (may : MayReset w c)
       let waited = is_waited b c k (ap (λ i. is_waited_for i b k) (sym h.who) ∙ in_.1) in
       elim (voting.needed_is_known w c sound may v m b h k in_.0) [
         | inl goes ↦ record {
-            more = event_at place (act.GiveUp k) ∷ [];
-            such = All-cons (IsOfReset place) _ [] (gives_up k) (All-nil (IsOfReset place));
-            node = v.nodes c;
-            ballot = _;
-            come = voting.come_after w c sound may v m b h names refl some k goes waited.unvoted waited.kept waited.other;
-            fewer = voting.fewer_after w c sound may v m b h names refl some k goes waited.unvoted waited.kept waited.other;
-          }
+          more = event_at place (act.GiveUp k) ∷ [];
+          such = All-cons (IsOfReset place) _ [] (gives_up k) (All-nil (IsOfReset place));
+          node = v.nodes c;
+          ballot = _;
+          come = voting.come_after w c sound may v m b h names refl some k goes waited.unvoted waited.kept waited.other;
+          fewer = voting.fewer_after w c sound may v m b h names refl some k goes waited.unvoted waited.kept waited.other;
+        }
         | inr votes_ ↦ record {
-            more = events_of_exchanges 1 v k c;
-            such = spread_events place (events_of_exchanges 1 v k c) (exchanges_are_of_such 1 v k c);
-            node = refresh_at_end (v.nodes c);
-            ballot = _;
-            come = voting.come_with_vote w c sound may v m b h names refl some k votes_ pick.1 waited.unvoted waited.kept waited.other;
-            fewer = voting.fewer_with_vote w c sound may v m b h names refl some k votes_ pick.1 waited.unvoted waited.kept waited.other;
-          }
+          more = events_of_exchanges 1 v k c;
+          such = spread_events place (events_of_exchanges 1 v k c) (exchanges_are_of_such 1 v k c);
+          node = refresh_at_end (v.nodes c);
+          ballot = _;
+          come = voting.come_with_vote w c sound may v m b h names refl some k votes_ pick.1 waited.unvoted waited.kept waited.other;
+          fewer = voting.fewer_with_vote w c sound may v m b h names refl some k votes_ pick.1 waited.unvoted waited.kept waited.other;
+        }
       ]
 
   -- ---- all of them
