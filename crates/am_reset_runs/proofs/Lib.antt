@@ -10,3 +10,4 @@ mod Come
 mod Deciding
 mod Quieter
 pub mod Resetting
+pub mod Again

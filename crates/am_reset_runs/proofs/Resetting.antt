@@ -38,7 +38,7 @@ looked_member : {v : World} {c : ℕ} {m : Node} {b : Ballot} → HasLearnedAll 
 looked_member {m = m} {b = b} h = ap (λ (n : Node). is_member n.status) h.looked ∙ ap is_member (end_refresh_rests_with_list (decide m b).node).rests.status
     ∙ ap is_member (look_keeps_status m b h.learned) ∙ h.listed
 
-module _ (rules : Rules) (events : List Event) (place : ℕ) (may : MayFound rules) (low : place < 16) (lawful : lawful_front rules events ≡ events)
+module _ (rules : Rules) (events : List Event) (place : ℕ) (may : MayFound rules) (low : place < 16) (lawful : LawfulUntilLastStop rules events)
     (reset : MayReset (run rules events) (current (run rules events) place)) (asks : NobodyAsks (run rules events)) where
   abbrev w : World
   w = run rules events
@@ -50,7 +50,7 @@ module _ (rules : Rules) (events : List Event) (place : ℕ) (may : MayFound rul
   same_place = omega arith
 
   sound : VotersAreSound w c
-  sound = voters_are_sound rules events c may (lawful_is_until_last_stop rules events lawful) reset
+  sound = voters_are_sound rules events c may lawful reset
 
   -- ---- a run that goes on by events of the reset
 
@@ -62,7 +62,7 @@ module _ (rules : Rules) (events : List Event) (place : ℕ) (may : MayFound rul
     goes_on = runs_go_on (start rules) events more
 
     spared : LawfulUntilLastStop rules (events ++ more)
-    spared = goes_on_without_stops rules events more (lawful_is_until_last_stop rules events lawful) (reset_stops_nobody place more such)
+    spared = goes_on_without_stops rules events more lawful (reset_stops_nobody place more such)
 
     whose : (name : ℕ) → (v.nodes name).core.who ≡ name
     whose name = subst (λ (x : World). (x.nodes name).core.who ≡ name) goes_on ((names_hold_in_runs rules (events ++ more) may).who name)
@@ -149,11 +149,18 @@ module _ (rules : Rules) (events : List Event) (place : ℕ) (may : MayFound rul
     answers : Answers
     answers = split_on_bool ((best_vote_for_ballot z.node z.ballot).by == z.node.core.who) learned fetched_all
 
-pub resets_are_answered : ResetsAreAnswered
-resets_are_answered rules events place resilience may low lawful reset asks =
+-- also in a run that is lawful until the last stop
+pub resets_are_answered_until_last_stop : (rules : Rules) (events : List Event) (place resilience : ℕ) → MayFound rules → place < 16 → LawfulUntilLastStop rules events
+    → MayReset (run rules events) (current (run rules events) place) → NobodyAsks (run rules events)
+    → (more : List Event) × All (IsOfReset place) more × ResetEnds rules (events ++ more) place
+resets_are_answered_until_last_stop rules events place resilience may low lawful reset asks =
     let w = run rules events in
     let c = current w place in
     let s = sound rules events place may low lawful reset asks in
     let z = votes_end_after_reset w c s reset resilience in
     answers rules events place may low lawful reset asks z
     (subst (λ k. All (IsOfReset k) z.more) (same_place rules events place may low lawful reset asks) z.such)
+
+pub resets_are_answered : ResetsAreAnswered
+resets_are_answered rules events place resilience may low lawful =
+    resets_are_answered_until_last_stop rules events place resilience may low (lawful_is_until_last_stop rules events lawful)

@@ -31,7 +31,7 @@ lower_has_no_more_rounds a b f = grind (arith, nat_tests)
 fewer_rounds_differ : (a b : Stamp) → a.round < b.round → stamps_are_equal a b ≡ false
 fewer_rounds_differ a b low = grind (arith, nat_tests)
 
-more_rounds_are_not_less : (a b : Stamp) → a.round < b.round → stamp_is_less b a ≡ false
+pub more_rounds_are_not_less : (a b : Stamp) → a.round < b.round → stamp_is_less b a ≡ false
 more_rounds_are_not_less a b low = grind (arith, nat_tests)
 
 turned : (a b : ℕ) → (a == b) ≡ false → (b == a) ≡ false

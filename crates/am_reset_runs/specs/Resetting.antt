@@ -1,5 +1,5 @@
 -- What is claimed of one member that resets, where nobody asks to join: it decides a view, and all that the view's members sent is answered.
-use Rattle.std.specs.Prelude.{◌≡◌, ◌⊎◌, ℕ, ◌<◌, List, ◌++◌, Some, true, false, All}
+use Rattle.std.specs.Prelude.{◌≡◌, ◌⊎◌, ℕ, ◌<◌, List, ◌++◌, Some, true, false, ◌==◌, All}
 use Rattle.am_base.specs.declared.outcome.Outcome.TheVariants as said
 use Rattle.am_base.specs.Founding.{Rules, MayFound}
 use Rattle.am_base.specs.Names.{has}
@@ -15,12 +15,17 @@ use Rattle.am_trim_laws.specs.Trims.{HasComeToJoin}
 use Rattle.am_repair_takes.specs.Resting.{NobodyAsks}
 use Rattle.am_repair_fetches.specs.Rest.{IsDecidedAnew, AreAnsweredLater}
 
--- a current name that runs may vote for another: it is a Member, isn't leaving, has come to its Join, and has promised no more than that name
-pub record MayVoteFor (w : World) (c name : ℕ) : Type 0 where
+-- a current name that runs may vote: it is a Member, isn't leaving, and has come to its Join
+pub record MayVote (w : World) (name : ℕ) : Type 0 where
   pub current_ : IsCurrent w name
   pub member_ : is_member (w.nodes name).status ≡ true
   pub stays : (w.nodes name).leaving ≡ false
   pub come : HasComeToJoin (w.nodes name)
+
+-- and it may vote for another, if it has promised no more than that name
+pub record MayVoteFor (w : World) (c name : ℕ) : Type 0 where
+  pub votes : MayVote w name
+  pub open votes use *
   pub promised : stamp_is_less (w.nodes c).core.promise (w.nodes name).core.promise ≡ false
 
 -- a member may reset: whoever is in the list of a name that may vote for it, itself among them, has stopped or may vote for it
@@ -51,4 +56,19 @@ ResetEnds rules events place = let w = run rules events in HasNoRoom (w.nodes (c
 abbrev pub ResetsAreAnswered : Type 0
 ResetsAreAnswered = (rules : Rules) (events : List Event) (place resilience : ℕ) → MayFound rules → place < 16 → lawful_front rules events ≡ events
     → MayReset (run rules events) (current (run rules events) place) → NobodyAsks (run rules events)
+    → (more : List Event) × All (IsOfReset place) more × ResetEnds rules (events ++ more) place
+
+-- whatever names have promised: a member whose list has another name may reset again and again
+pub record MayResetAgain (w : World) (c : ℕ) : Type 0 where
+  pub itself : MayVote w c
+  pub listed : has (members (w.nodes c)) c ≡ true
+  pub other : ℕ
+  pub differs : (other == c) ≡ false
+  pub listed_too : has (members (w.nodes c)) other ≡ true
+  pub each : (voter name : ℕ) → MayVote w voter → has (members (w.nodes voter)) name ≡ true → (is_stopped w name ≡ true) ⊎ MayVote w name
+
+-- then as many resets as bring it above what they have promised do the same
+abbrev pub RepeatedResetsAreAnswered : Type 0
+RepeatedResetsAreAnswered = (rules : Rules) (events : List Event) (place resilience : ℕ) → MayFound rules → place < 16 → lawful_front rules events ≡ events
+    → MayResetAgain (run rules events) (current (run rules events) place) → NobodyAsks (run rules events)
     → (more : List Event) × All (IsOfReset place) more × ResetEnds rules (events ++ more) place
