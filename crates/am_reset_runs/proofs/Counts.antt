@@ -1,9 +1,11 @@
 -- Whom a ballot waits for, and how many names it hasn't heard of.
 use Rattle.am_reset_runs.proofs.Words.{◌≡◌, ℕ, zero, suc, ◌+◌, ◌<◌, ◌≤◌, ◌==◌, not, nat_lt, Bool, true, false, if◌then◌else◌, List, [], ◌∷◌, length, slice_index, list_any, count_by, count_by_of_cons}
 use Rattle.am_reset_runs.proofs.Words.{refl, ap, ◌∙◌, arith, nat_tests, split_on_bool, place_of_name, life_of_name, has, size, names_that_pass}
-use Rattle.am_base.specs.Names.{name_of_place_and_life}
+use Rattle.std.specs.List.{range_with_len}
+use Rattle.am_base.specs.Names.{name_of_place_and_life, list_by_place}
+unfoldable use Rattle.am_base.specs.Names.{list_by_place as sixteen_by_place}
 use Rattle.am_model.specs.Node.{life_where_name_passes}
-use Rattle.am_base.proofs.Places.{length-by_place}
+use Rattle.am_base.proofs.Places.{length-by_place, sixteen_items_are_by_place}
 use Rattle.am_model.proofs.Sets.{size_cons}
 unfoldable use Rattle.am_model.specs.Node.{names_that_pass as those_that_pass}
 
@@ -72,3 +74,38 @@ count_lt_of_weaker p q (x ∷ xs) k weaker there fails passes =
     split_on_bool (p x)
     (λ t. let u = weaker x t in rw (a, b, t, u) (omega arith))
     (λ f. split_on_bool (q x) (λ u. rw (a, b, f, u) (omega arith)) (λ u. rw (a, b, f, u) (omega arith))))
+
+-- ---- a part of a set
+
+any_place : (place : ℕ) → place < 16 → list_any (λ x. x == place) (range_with_len 0 16) ≡ true
+any_place place low = grind (arith, nat_tests)
+
+size_by_place : (f : ℕ → ℕ) → size (list_by_place f) ≡ count_by (λ place. nat_lt 0 (f place)) (range_with_len 0 16)
+unfolding sixteen_by_place
+size_by_place f = refl
+
+-- fewer names of a set pass, if one of it doesn't
+pub selection_is_smaller : (test : ℕ → Bool) (set : List ℕ) (name : ℕ) → length set ≡ 16 → has set name ≡ true → test name ≡ false → size (names_that_pass test set) < size set
+unfolding those_that_pass
+selection_is_smaller test set name long there fails =
+    let f : ℕ → ℕ = λ place. life_where_name_passes test place (slice_index set place) in
+    let at : slice_index set (place_of_name name) ≡ life_of_name name = grind (arith, nat_tests) in
+    let low : place_of_name name < 16 = omega arith in
+    let same : name_of_place_and_life (place_of_name name) (life_of_name name) ≡ name = omega arith in
+    let none : life_where_name_passes test (place_of_name name) (slice_index set (place_of_name name)) ≡ 0 =
+    ap (life_where_name_passes test (place_of_name name)) at ∙ nobody_there test name (ap test same ∙ fails) in
+    let whole : set ≡ list_by_place (slice_index set) = sixteen_items_are_by_place (slice_index set) set 0 long (λ k small. refl) in
+    let fewer = count_lt_of_weaker (λ place. nat_lt 0 (f place)) (λ place. nat_lt 0 (slice_index set place)) (range_with_len 0 16) (place_of_name name)
+    (λ place t. passes_there test place (slice_index set place) t) (any_place (place_of_name name) low) (ap (nat_lt 0) none)
+    (ap (nat_lt 0) at ∙ (let up : nat_lt 0 (life_of_name name) ≡ true = grind (arith, nat_tests) in up)) in
+    let a = size_by_place f in
+    let c = ap size whole ∙ size_by_place (slice_index set) in
+    omega arith
+  where
+    nobody_there : (test : ℕ → Bool) (name : ℕ) → test (name_of_place_and_life (place_of_name name) (life_of_name name)) ≡ false → life_where_name_passes test (place_of_name name) (life_of_name name) ≡ 0
+    nobody_there test name f = split_on_bool (life_of_name name == 0) (λ t. rw t refl) (λ g. rw (g, f) refl)
+
+    passes_there : (test : ℕ → Bool) (place life : ℕ) → nat_lt 0 (life_where_name_passes test place life) ≡ true → nat_lt 0 life ≡ true
+    passes_there test place life t = split_on_bool (life == 0)
+        (λ u. absurd (let z = rw u at t in cc))
+        (λ g. grind (arith, nat_tests))

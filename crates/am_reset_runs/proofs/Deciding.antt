@@ -2,7 +2,14 @@
 use Rattle.am_reset_runs.proofs.Words.{◌≡◌, inl, inr, ◌⊎◌, ℕ, ◌+◌, ◌-◌, ◌<◌, ◌==◌, ◌&&◌, not, nat_lt, true, false, length, refl, sym, ap, ◌∙◌, subst, arith, nat_tests, split_on_bool, eqb-true}
 use Rattle.am_reset_runs.proofs.Words.{has, size, Stamp, stamp_is_less, stamps_are_equal, Log, top_of_log, image_of_log, members_of_image, Image, Node, Ballot, BallotVerdict, top, view, members, image_of_node, is_member}
 use Rattle.am_reset_runs.proofs.Words.{refresh_at_end, end_refresh_rests_with_list, World, current, need_set_of, need_set_without_given_up, decide, HasNoRoom, place_of_name, life_of_name}
-use Rattle.am_reset_runs.proofs.Parts.{HasLearnedAll, IsReady, TrimsTaken}
+use Rattle.am_reset_runs.proofs.Parts.{HasLearnedAll, IsReady, TrimsTaken, HasRoomForMembers}
+use Rattle.am_reset_runs.proofs.Counts.{sixteen_that_pass, selection_is_smaller}
+use Rattle.am_reset_runs.proofs.Words.{◌≤◌, Some, Rules}
+use Rattle.std.proofs.lemmas.Bool.{cases_lt}
+use Rattle.am_safety.proofs.Fits.{set_size_le_length}
+use Rattle.am_step_laws.proofs.Trimming.Taken.{own_best_list_needs_members}
+use Rattle.am_trim_laws.proofs.Bases.{follower_end_keeps_base}
+use Rattle.am_ballot_laws.proofs.Fetching.{promised_leads_not}
 use Rattle.std.specs.Prelude.{List, slice_index, slice_index_or}
 use Rattle.std.proofs.Common.{length-append}
 use Rattle.std.proofs.lemmas.Bool.{eq-eqb}
@@ -59,18 +66,56 @@ module _ (v : World) (place c : ℕ) (m : Node) (b : Ballot) (now : current v pl
   enough : nat_lt (size names) b.least ≡ false
   enough = let some = set_with_name_has_size names c itself_needed in let least = h.least_ in grind (arith, nat_tests)
 
-  no_room_by : nat_lt (m.core.rules.window + 16 - size names) (top m + 1 - before.core.base) ≡ true → HasNoRoom (v.nodes c)
-  unfolding decide
-  no_room_by t =
-      let l = h.learned in
-      let is : decide m b ≡ verdict_ending before b (said.Crowded before.core.base (top m)) = rw (l.needed, l.all, l.own, enough, t) refl in
-      record {
-        ballot = ballot_with_end b (said.Crowded before.core.base (top m));
-        last = ap (λ (n : Node). n.ballot) h.looked ∙ (end_refresh_rests_with_list (decide m b).node).rests.ballot ∙ ap (λ (d : BallotVerdict). d.node.ballot) is;
-        base = before.core.base;
-        top_ = top m;
-        answer = refl;
-      }
+  -- where its View has no room, it gave up nobody
+  module _ (room : HasRoomForMembers (v.nodes c)) (crowded : nat_lt (m.core.rules.window + 16 - size names) (top m + 1 - before.core.base) ≡ true) where
+    full : Ballot
+    full = ballot_with_end b (said.Crowded before.core.base (top m))
+
+    unfinished : Node
+    unfinished = record before { ballot = Some full }
+
+    ends : v.nodes c ≡ refresh_at_end unfinished
+    unfolding decide full unfinished
+    ends = let l = h.learned in h.looked ∙ ap (λ (x : Node). refresh_at_end x) (rw (l.needed, l.all, l.own, enough, crowded) refl)
+
+    same_members : members (v.nodes c) ≡ need_set_of m b
+    unfolding unfinished
+    same_members = ap (λ (x : Node). members x) ends ∙ ap (λ (l : Log). members_of_image (image_of_log l)) (end_refresh_rests_with_list unfinished).log
+        ∙ sym (own_best_list_needs_members m b h.learned.own (ap b.votes h.who ∙ h.unvoted))
+
+    none_is_given_up : (name : ℕ) → has (members (v.nodes c)) name ≡ true → b.given_up name ≡ false
+    unfolding unfinished
+    none_is_given_up name there = split_on_bool (b.given_up name)
+        (λ t. absurd (
+        let r = end_refresh_rests_with_list unfinished in
+        let needed : has (need_set_of m b) name ≡ true = ap (λ set. has set name) (sym same_members) ∙ there in
+        let long : length (need_set_of m b) ≡ 16 = ap (λ (set : List ℕ). length set) (sym same_members) ∙ room.sixteen in
+        let fewer = selection_is_smaller (λ j. not (b.given_up j)) (need_set_of m b) name long needed (ap not t) in
+        let leads : is_sequencer unfinished ≡ false = promised_leads_not unfinished h.below in
+        let base : (v.nodes c).core.base ≡ before.core.base = ap (λ (x : Node). x.core.base) ends ∙ follower_end_keeps_base unfinished leads in
+        let tops : top (v.nodes c) ≡ top m = ap (λ (x : Node). top x) ends ∙ ap (λ (l : Log). top_of_log l) r.log in
+        let window : (v.nodes c).core.rules.window ≡ m.core.rules.window = ap (λ (x : Node). x.core.rules.window) ends ∙ ap (λ (y : Rules). y.window) r.rests.rules in
+        let sizes = ap size same_members in
+        let some = room.window in
+        let most = set_size_le_length names in
+        let length_ = sixteen_that_pass (λ j. not (b.given_up j)) (need_set_of m b) in
+        let over : m.core.rules.window + 16 - size names < top m + 1 - before.core.base = grind (arith, nat_tests) in
+        elim (cases_lt (v.nodes c).core.base (top (v.nodes c))) [
+          | inl below ↦ (let fits = room.room below in omega arith)
+          | inr above ↦ omega arith
+        ]))
+        (λ f. f)
+
+    no_room_by : HasNoRoom (v.nodes c)
+    unfolding full unfinished
+    no_room_by = record {
+      ballot = full;
+      last = ap (λ (n : Node). n.ballot) ends ∙ (end_refresh_rests_with_list unfinished).rests.ballot;
+      base = before.core.base;
+      top_ = top m;
+      answer = refl;
+      all = none_is_given_up;
+    }
 
   -- the node that decided
   abbrev ended : Node
@@ -137,9 +182,10 @@ module _ (v : World) (place c : ℕ) (m : Node) (b : Ballot) (now : current v pl
     }
 
 -- such a ballot decides, or there is no room
-pub decided_or_no_room : (v : World) (place c : ℕ) (m : Node) (b : Ballot) → current v place ≡ c → HasLearnedAll v c m b → TrimsTaken v c → HasNoRoom (v.nodes c) ⊎ IsDecidedAnew v place
-decided_or_no_room v place c m b now h takes =
+pub decided_or_no_room : (v : World) (place c : ℕ) (m : Node) (b : Ballot) → current v place ≡ c → HasLearnedAll v c m b → TrimsTaken v c → HasRoomForMembers (v.nodes c)
+    → HasNoRoom (v.nodes c) ⊎ IsDecidedAnew v place
+decided_or_no_room v place c m b now h takes room =
     let names_ = need_set_without_given_up b (need_set_of m b) in
     split_on_bool (nat_lt (m.core.rules.window + 16 - size names_) (top m + 1 - (trim_to_least_taken_by m b names_).core.base))
-    (λ t. inl (no_room_by v place c m b now h t))
+    (λ t. inl (no_room_by v place c m b now h room t))
     (λ f. inr (decided_anew v place c m b now h f takes))

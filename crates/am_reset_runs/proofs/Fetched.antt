@@ -12,7 +12,7 @@ use Rattle.am_fetch_runs.specs.Events.{events_of_exchanges}
 use Rattle.am_fetch_runs.proofs.Events.{IsThereNow, BothAreThere, ExchangedSoOften, two_of, exchanges_happen}
 use Rattle.am_trim_laws.specs.Trims.{HasComeToJoin}
 use Rattle.am_reset_runs.proofs.Parts.{stamp_of_reset, VotersAreSound, HasVoted, VotesCome, IsReady, HasLearnedAll}
-use Rattle.am_reset_runs.proofs.Voting.{itself_is_equal}
+use Rattle.am_reset_runs.proofs.Voting.{unvoted}
 use Rattle.am_reset_runs.proofs.Heard as heard
 
 module _ (w v : World) (c : ℕ) (sound : VotersAreSound w c) (may : MayReset w c) (m : Node) (b : Ballot) (h : VotesCome w v c m b)
@@ -62,14 +62,6 @@ module _ (w v : World) (c : ℕ) (sound : VotersAreSound w c) (may : MayReset w 
 
     -- ---- who is needed
 
-    -- the coordinator has no vote of its own
-    unvoted : b.votes c ≡ None
-    unvoted = by (b.votes c) refl
-      where
-        by : (o : Option Vote) → b.votes c ≡ o → b.votes c ≡ None
-        by None is = is
-        by (Some vote) is = absurd (let f = (h.votes c vote is).other in let t = itself_is_equal c in cc)
-
     same_image : image_of_log whole.core.log ≡ image_of_log (w.nodes voter).core.log
     same_image = looks.told_ ∙ ap (λ (l : Log). image_of_log l) shown.log
 
@@ -83,7 +75,7 @@ module _ (w v : World) (c : ℕ) (sound : VotersAreSound w c) (may : MayReset w 
       | inl own ↦ ap (λ (y : Vote). y.members) own.1 ∙ ap (λ (i : Image). members_of_image i) same_image ∙ sym shown.members_
       | inr there ↦ absurd (
           let by : (best_vote_for_ballot whole b2).by ≡ c = eqb-true (best_vote_for_ballot whole b2).by whole.core.who looks.learned.own ∙ who_whole in
-          let z : None ≡ Some (best_vote_for_ballot whole b2).vote = sym unvoted ∙ ap b.votes (sym by) ∙ there in
+          let z : None ≡ Some (best_vote_for_ballot whole b2).vote = sym (unvoted w c sound may v m b h) ∙ ap b.votes (sym by) ∙ there in
           cc)
     ]
 
@@ -130,8 +122,10 @@ module _ (w v : World) (c : ℕ) (sound : VotersAreSound w c) (may : MayReset w 
             who = who_whole;
             listed = looks.coordinates.listed;
             promise = sym looks.coordinates.stamp;
+            below = looks.coordinates.below;
             own = ap (λ (u : Stamp). u.by) h.stamp ∙ sound.who c;
             least_ = h.least_;
+            unvoted = unvoted w c sound may v m b h;
             kept = heard.kept w v c sound may m b h nobody stays come;
             learned = looks.learned;
             ready = ready;

@@ -10,7 +10,7 @@ use Rattle.am_base.specs.declared.outcome.Outcome.TheVariants as said
 use Rattle.am_fetch_runs.specs.Ballots.{FetchesFromVoter}
 use Rattle.am_trim_laws.specs.Trims.{HasComeToJoin}
 use Rattle.am_reset_runs.proofs.Parts.{stamp_of_reset, VotersAreSound, HasVoted, VotesCome, IsReady, HasLearnedAll, TrimsTaken}
-use Rattle.am_reset_runs.proofs.Voting.{itself_is_needed, is_best, itself_is_equal}
+use Rattle.am_reset_runs.proofs.Voting.{itself_is_needed, is_best, views_below, unvoted, itself_is_equal}
 
 -- ---- the best vote, whatever the coordinator has taken
 
@@ -96,9 +96,11 @@ module _ (w v : World) (c : ℕ) (sound : VotersAreSound w c) (may : MayReset w 
     who = h.who;
     listed = ap is_member h.status ∙ may.itself.member_;
     promise = h.promise ∙ sym h.stamp;
+    below = views_below w c sound may v m b h;
     own = ap (λ (u : Stamp). u.by) h.stamp ∙ sound.who c;
     least_ = h.least_;
     kept = kept;
+    unvoted = unvoted w c sound may v m b h;
     learned = record { needed = needed; all = nobody; own = own };
     ready = voter_is_ready;
     looked = h.looked;

@@ -1,5 +1,5 @@
 -- What is known of a coordinator, its voters and its ballot while votes come.
-use Rattle.am_reset_runs.proofs.Words.{◌≡◌, ◌⊎◌, ℕ, ◌==◌, ◌<◌, ◌≤◌, true, false, Some, None, Node, Ballot, Stamp, stamp_is_less, has, top, view, members, refresh_at_end, World, is_stopped, is_member, next_stamp}
+use Rattle.am_reset_runs.proofs.Words.{◌≡◌, ℕ, ◌+◌, ◌-◌, ◌==◌, ◌<◌, ◌≤◌, size, length, stamps_are_equal, true, false, Some, None, Node, Ballot, Stamp, stamp_is_less, has, top, view, members, refresh_at_end, World, is_stopped, is_member, next_stamp}
 use Rattle.am_reset_runs.proofs.Words.{Vote, vote_is_less, own_vote, decide, need_set_of, need_set_without_given_up, HasLearned, IsCurrent, MayVoteFor}
 use Rattle.am_trim_laws.specs.Trims.{HasComeToJoin}
 
@@ -64,9 +64,11 @@ pub record HasLearnedAll (v : World) (c : ℕ) (m : Node) (b : Ballot) : Type 0 
   pub who : m.core.who ≡ c
   pub listed : is_member m.status ≡ true
   pub promise : m.core.promise ≡ b.stamp
+  pub below : stamps_are_equal (view m) m.core.promise ≡ false
   pub own : b.stamp.by ≡ c
   pub least_ : b.least ≡ 1
   pub kept : b.given_up c ≡ false
+  pub unvoted : b.votes c ≡ None
   pub learned : HasLearned m b
   pub ready : (name : ℕ) → has (need_set_without_given_up b (need_set_of m b)) name ≡ true → (name == c) ≡ false → IsReady v name b.stamp
   pub looked : v.nodes c ≡ refresh_at_end (decide m b).node
@@ -75,3 +77,9 @@ pub record HasLearnedAll (v : World) (c : ℕ) (m : Node) (b : Ballot) : Type 0 
 abbrev pub TrimsTaken : World → ℕ → Type 0
 TrimsTaken v c = (name : ℕ) → IsCurrent v name → is_member (v.nodes name).status ≡ true → (v.nodes name).leaving ≡ false
     → HasComeToJoin (v.nodes name) → (refresh_at_end (v.nodes c)).core.base ≤ (v.nodes name).core.taken
+
+-- a node's list has room for its members: its last entry isn't further above its base than they allow
+pub record HasRoomForMembers (n : Node) : Type 0 where
+  pub window : 0 < n.core.rules.window
+  pub sixteen : length (members n) ≡ 16
+  pub room : n.core.base < top n → top n - n.core.base ≤ n.core.rules.window + 16 - size (members n)

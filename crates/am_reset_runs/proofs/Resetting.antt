@@ -7,6 +7,10 @@ use Rattle.am_repair.proofs.Repairable.RepairedWords.{names_hold_in_runs, member
 use Rattle.am_fetch_runs.specs.Ballots.{FetchesFromVoter}
 use Rattle.am_fetch_runs.proofs.Gathering.{exchanges_are_of_such}
 use Rattle.am_fetch_runs.proofs.Coordinating.{coordinators_may_follow_until_last_stop}
+use Rattle.am_base.specs.Lists.{member_life_of_row}
+use Rattle.am_lawful_runs.proofs.Words.{length-map, told_image_is_used, run_trims_only_taken, image_at_top_is_told}
+use Rattle.am_reset_runs.proofs.Words.{Image, members_of_image, image_of_node}
+use Rattle.am_safety.proofs.Fitted.{views_fit_until_last_stop}
 use Rattle.am_model.specs.Ballots.{trim_to_least_taken_by}
 use Rattle.am_ballot_laws.specs.Following.{MayFollowVoter}
 use Rattle.am_trim_laws.specs.Trims.{HasComeToJoin}
@@ -14,7 +18,7 @@ use Rattle.am_trim_laws.proofs.Taken.{members_have_taken_trims_until_last_stop}
 use Rattle.am_repair_takes.specs.Resting.{NobodyAsks}
 use Rattle.am_repair_fetches.specs.Rest.{IsDecidedAnew}
 use Rattle.am_repair_fetches.proofs.Answered.{decided_views_are_answered_until_last_stop}
-use Rattle.am_reset_runs.proofs.Parts.{VotersAreSound, HasVoted, VotesCome, HasLearnedAll, TrimsTaken}
+use Rattle.am_reset_runs.proofs.Parts.{VotersAreSound, HasVoted, VotesCome, HasLearnedAll, TrimsTaken, HasRoomForMembers}
 use Rattle.am_reset_runs.proofs.Sound.{voters_are_sound}
 use Rattle.am_reset_runs.proofs.Votes.{VotesEnd, votes_end_after_reset, spread_events}
 use Rattle.am_reset_runs.proofs.Heard as heard
@@ -79,12 +83,30 @@ module _ (rules : Rules) (events : List Event) (place : ℕ) (may : MayFound rul
         members_have_taken_trims_until_last_stop rules (events ++ more) q name may spared few (member_has_not_departed ((run rules (events ++ more)).nodes q).status member_) runs_
         (record { small = current_.small; member_ = listed; runs = current_.runs; stays = remains }) come_) member runs
 
+    -- its list has room for its members
+    room : HasRoomForMembers (v.nodes c)
+    room = subst (λ (x : World). HasRoomForMembers (x.nodes c)) goes_on
+        (let x = run rules (events ++ more) in
+        let n = x.nodes c in
+        let laws = run_trims_only_taken rules (events ++ more) may in
+        let founding = (laws.kept c).founding in
+        let fits = (views_fit_until_last_stop rules (events ++ more) c may spared).each (top n) in
+        let used = told_image_is_used n (laws.each c reset.itself.current_.small).fronts in
+        let window = ap (λ (r : Rules). r.window) founding in
+        let least = may.window_least in
+        let last = ap (λ (i : Image). size (members_of_image i)) (image_at_top_is_told n.core.log) in
+        record {
+          window = omega arith;
+          sixteen = length-map (image_of_node n).rows member_life_of_row ∙ used.places;
+          room = λ above. (let f = fits above (omega arith) in omega arith);
+        })
+
     -- a ballot that has learned all ends so
     ends : (m : Node) (b : Ballot) → HasLearnedAll v c m b → is_member (v.nodes c).status ≡ true → ResetEnds rules (events ++ more) place
     ends m b h member =
         let lives = (stopped_stays_in_reset place more w such).lives in
         let same : current v place ≡ c = ap (λ (f : ℕ → ℕ). current (record w { lives = f }) place) lives in
-        elim (decided_or_no_room v place c m b same h (trims c h.current_.small member h.current_.runs)) [
+        elim (decided_or_no_room v place c m b same h (trims c h.current_.small member h.current_.runs) room) [
           | inl none ↦ inl (subst (λ (x : World). HasNoRoom (x.nodes (current x place))) (sym goes_on) (subst (λ i. HasNoRoom (v.nodes i)) (sym same) none))
           | inr decided ↦
               (let there : IsDecidedAnew (run rules (events ++ more)) place = subst (λ (x : World). IsDecidedAnew x place) (sym goes_on) decided in

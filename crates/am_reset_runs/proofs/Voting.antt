@@ -112,7 +112,19 @@ module _ (w : World) (c : ℕ) (sound : VotersAreSound w c) (may : MayReset w c)
           ap (λ set. has set m.core.who) x.members_ ∙ ap (has (members (w.nodes best.by))) h.who ∙ sound.better best.by x.may less)
     ]
 
+    -- it has no vote of its own
+    pub unvoted : b.votes c ≡ None
+    unvoted = by (b.votes c) refl
+      where
+        by : (o : Option Vote) → b.votes c ≡ o → b.votes c ≡ None
+        by None is = is
+        by (Some vote) is = absurd (let f = (h.votes c vote is).other in let t = itself_is_equal c in cc)
+
     -- ---- who coordinates
+
+    -- its list's view isn't the stamp
+    pub views_below : stamps_are_equal (view m) m.core.promise ≡ false
+    views_below = (λ i. stamps_are_equal (same_view i) (h.promise i)) ∙ fewer_rounds_differ (view (w.nodes c)) st (viewed_below c may.itself)
 
     module _ (names : List ℕ) where
       abbrev b1 : Ballot
@@ -128,7 +140,7 @@ module _ (w : World) (c : ℕ) (sound : VotersAreSound w c) (may : MayReset w c)
         open_ = refl;
         stamp = h.stamp ∙ sym h.promise;
         own = ap (λ (u : Stamp). u.by) h.promise ∙ sound.who c ∙ sym h.who;
-        below = (λ i. stamps_are_equal (same_view i) (h.promise i)) ∙ fewer_rounds_differ (view (w.nodes c)) st (viewed_below c may.itself);
+        below = views_below;
       }
 
       -- ---- it waits

@@ -40,15 +40,16 @@ pub data IsOfReset (place : ℕ) : Event → Type 0 where
   gives_up : (name : ℕ) → IsOfReset place (event_at place (act.GiveUp name))
   spreads : (e : Event) → IsTickOrHearing e → IsOfReset place e
 
--- its View doesn't fit
+-- its View doesn't fit, and it gave up no member of its list
 pub record HasNoRoom (m : Node) : Type 0 where
   pub ballot : Ballot
   pub last : m.ballot ≡ Some ballot
   pub base : ℕ
   pub top_ : ℕ
   pub answer : ballot.answer ≡ said.Crowded base top_
+  pub all : (name : ℕ) → has (members m) name ≡ true → ballot.given_up name ≡ false
 
--- so by one reset there is a view whose members have all that they sent answered, or its View doesn't fit
+-- so by one reset there is a view whose members have all that they sent answered, or its View doesn't fit, where it gave up nobody
 abbrev pub ResetEnds : Rules → List Event → ℕ → Type 0
 ResetEnds rules events place = let w = run rules events in HasNoRoom (w.nodes (current w place)) ⊎ (IsDecidedAnew w place × AreAnsweredLater rules events place)
 

@@ -24,6 +24,7 @@ use Rattle.am_safety.proofs.Fits.{by_piece, by_result, EntryFitsAboveBase, set_s
 use Rattle.am_safety.proofs.Heard.{whole_packet}
 use Rattle.am_safety.proofs.Heard.{too_short, stepped_node_heard_packet, sender_has_not_departed}
 use Rattle.am_safety.proofs.Rows as done
+use Rattle.am_lawful_runs.proofs.Spared.{LawfulUntilLastStop, group_follows_until_last_stop}
 
 -- ---- what is kept
 
@@ -382,6 +383,11 @@ fitted_keeps rules = record {
     letters = λ k l at. packet_fits_in_grown_group rules s t l.packet q.grows (h.letters k l (ap (λ (ls : List Letter). slice_get ls k) (sym q.stays.letters) ∙ at));
   };
 }
+
+-- also further, while nobody stops
+pub views_fit_until_last_stop : (rules : Rules) (events : List Event) (name : ℕ) → MayFound rules → LawfulUntilLastStop rules events → FitsView rules ((run rules events).nodes name)
+views_fit_until_last_stop rules events name may until =
+    (group_follows_until_last_stop (Fitted rules) rules (fitted_keeps rules) steps_are_group_moves may (λ t f. record { nodes = start_fits rules may; letters = λ k l at. absurd (cc) }) events until).is.nodes name
 
 pub views_fit : ViewsFit
 views_fit rules events name may =
