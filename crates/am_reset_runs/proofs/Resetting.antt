@@ -11,6 +11,10 @@ use Rattle.am_base.specs.Lists.{member_life_of_row}
 use Rattle.am_lawful_runs.proofs.Words.{length-map, told_image_is_used, run_trims_only_taken, image_at_top_is_told}
 use Rattle.am_reset_runs.proofs.Words.{Image, members_of_image, image_of_node}
 use Rattle.am_safety.proofs.Fitted.{views_fit_until_last_stop}
+use Rattle.am_step_laws.proofs.ViewChanges.{sequencer_is_member}
+use Rattle.am_repair.proofs.Known.OneLists.{listed_is}
+use Rattle.am_repair.proofs.Repairable.OneList.{running_sequencer_has_one_list}
+use Rattle.am_reset_runs.specs.Resetting.{HasAllRunning}
 use Rattle.am_model.specs.Ballots.{trim_to_least_taken_by}
 use Rattle.am_ballot_laws.specs.Following.{MayFollowVoter}
 use Rattle.am_trim_laws.specs.Trims.{HasComeToJoin}
@@ -101,6 +105,15 @@ module _ (rules : Rules) (events : List Event) (place : ℕ) (may : MayFound rul
           room = λ above. (let f = fits above (omega arith) in omega arith);
         })
 
+    -- the view has all that run
+    all_running : IsDecidedAnew (run rules (events ++ more)) place → HasAllRunning (run rules (events ++ more)) place
+    all_running decided name member goes remains =
+        let x = run rules (events ++ more) in
+        let q = current x place in
+        let one = running_sequencer_has_one_list rules (events ++ more) place may low spared decided.gathers.leads decided.gathers.current_.runs in
+        let own = one.each q (sequencer_is_member (x.nodes q) decided.gathers.leads) decided.gathers.current_.runs in
+        listed_is x (x.nodes q) name own (one.listed name member goes remains)
+
     -- a ballot that has learned all ends so
     ends : (m : Node) (b : Ballot) → HasLearnedAll v c m b → is_member (v.nodes c).status ≡ true → ResetEnds rules (events ++ more) place
     ends m b h member =
@@ -111,7 +124,11 @@ module _ (rules : Rules) (events : List Event) (place : ℕ) (may : MayFound rul
           | inr decided ↦
               (let there : IsDecidedAnew (run rules (events ++ more)) place = subst (λ (x : World). IsDecidedAnew x place) (sym goes_on) decided in
               let quiet : NobodyAsks (run rules (events ++ more)) = subst NobodyAsks (sym goes_on) (nobody_asks_after_reset place more w such asks) in
-              inr (there, decided_views_are_answered_until_last_stop rules (events ++ more) place may low spared there quiet))
+              inr (record {
+                decided = there;
+                all = all_running there;
+                answers = decided_views_are_answered_until_last_stop rules (events ++ more) place may low spared there quiet;
+              }))
         ]
 
   -- ---- after the votes

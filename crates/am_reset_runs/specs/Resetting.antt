@@ -49,9 +49,21 @@ pub record HasNoRoom (m : Node) : Type 0 where
   pub answer : ballot.answer ≡ said.Crowded base top_
   pub all : (name : ℕ) → has (members m) name ≡ true → ballot.given_up name ≡ false
 
--- so by one reset there is a view whose members have all that they sent answered, or its View doesn't fit, where it gave up nobody
+-- each Member that runs and isn't leaving is a member by the list of a place's name
+abbrev pub HasAllRunning : World → ℕ → Type 0
+HasAllRunning w place = (name : ℕ) → is_member (w.nodes name).status ≡ true → is_stopped w name ≡ false → (w.nodes name).leaving ≡ false
+    → has (members (w.nodes (current w place))) name ≡ true
+
+-- the place's name decided a view of all Members that run and don't leave, and of nobody else, and there are events after which all that they sent
+-- is answered
+pub record DecidesAndAnswers (rules : Rules) (events : List Event) (place : ℕ) : Type 0 where
+  pub decided : IsDecidedAnew (run rules events) place
+  pub all : HasAllRunning (run rules events) place
+  pub answers : AreAnsweredLater rules events place
+
+-- so a reset ends, or its View doesn't fit, where it gave up nobody
 abbrev pub ResetEnds : Rules → List Event → ℕ → Type 0
-ResetEnds rules events place = let w = run rules events in HasNoRoom (w.nodes (current w place)) ⊎ (IsDecidedAnew w place × AreAnsweredLater rules events place)
+ResetEnds rules events place = HasNoRoom ((run rules events).nodes (current (run rules events) place)) ⊎ DecidesAndAnswers rules events place
 
 -- of every lawful run in which a member may reset, and nobody who runs asks to join
 abbrev pub ResetsAreAnswered : Type 0
