@@ -26,6 +26,8 @@ use Rattle.am_fetch_runs.proofs.Events.{IsThereNow, OneMoved, stepped, there_aft
 use Rattle.am_repair_takes.specs.Resting.{NobodyAsks}
 use Rattle.am_reset_runs.specs.Resetting.{MayVote, MayResetAgain, RepeatedResetsAreAnswered}
 use Rattle.am_reset_runs.proofs.Come.{come_stays}
+use Rattle.am_reset_runs.proofs.Ticks.{TicksAtMost, no_events_tick, then_no_tick, ticks_in_turn}
+use Rattle.std.specs.Prelude.{◌/◌}
 use Rattle.am_reset_runs.proofs.Quieter.{reset_stops_nobody, nobody_asks_after_reset}
 use Rattle.am_reset_runs.proofs.Resetting.{resets_are_answered_until_last_stop}
 use Rattle.am_reset_runs.proofs.Voting.{more_rounds_are_not_less}
@@ -142,6 +144,7 @@ module _ (w : World) (c resilience : ℕ) (may : MayResetAgain w c) where
   record Resets (many : ℕ) : Type 0 where
     more : List Event
     such : All (IsOfReset (place_of_name c)) more
+    ticks : TicksAtMost (place_of_name c) more 0
     come : ResetSoOften w (world_after_events w more) c many
 
   reset_often : (whose : (w.nodes c).core.who ≡ c) (many : ℕ) → Resets many
@@ -149,6 +152,7 @@ module _ (w : World) (c resilience : ℕ) (may : MayResetAgain w c) where
   reset_often whose zero = record {
     more = [];
     such = All-nil (IsOfReset (place_of_name c));
+    ticks = no_events_tick (place_of_name c);
     come = record { log = refl; who = whose; status = refl; leaving = refl; rounds = omega arith; others = λ name f. refl; lives = refl; stopped = refl };
   }
   reset_often whose (suc many) =
@@ -159,6 +163,7 @@ module _ (w : World) (c resilience : ℕ) (may : MayResetAgain w c) where
       record {
         more = h.more ++ e ∷ [];
         such = All-append (IsOfReset (place_of_name c)) h.more (e ∷ []) h.such (All-cons (IsOfReset (place_of_name c)) e [] (resets resilience) (All-nil (IsOfReset (place_of_name c))));
+        ticks = ticks_in_turn (place_of_name c) h.more (e ∷ []) 0 0 h.ticks (then_no_tick (place_of_name c) e [] 0 refl (no_events_tick (place_of_name c)));
         come = subst (λ (u : World). ResetSoOften w u c (suc many)) (sym whole) (subst (ResetSoOften w (happens x e) c) count (once_more x many h.come));
       }
 
@@ -267,4 +272,6 @@ repeated_resets_are_answered rules events place resilience may low lawful reset 
     let quiet : NobodyAsks (run rules (events ++ z.more)) = subst NobodyAsks (sym goes_on) (nobody_asks_after_reset place z.more w such asks) in
     let last = resets_are_answered_until_last_stop rules (events ++ z.more) place resilience may low spared may_now quiet in
     let whole : (events ++ z.more) ++ last.0 ≡ events ++ (z.more ++ last.0) = append_assoc events z.more last.0 in
-    (z.more ++ last.0, All-append (IsOfReset place) z.more last.0 such last.1, subst (λ es. ResetEnds rules es place) whole last.2)
+    let first = subst (λ k. TicksAtMost k z.more 0) place_is z.ticks in
+    let both = ticks_in_turn place z.more last.0 0 (16 + (rules.window + 22) / 8) first (record { few = last.2.few; others = last.2.others }) in
+    (z.more ++ last.0, All-append (IsOfReset place) z.more last.0 such last.1, record { few = (let most = both.few in omega arith); others = both.others }, subst (λ es. ResetEnds rules es place) whole last.3)

@@ -2,7 +2,7 @@
 use Rattle.am_reset_runs.proofs.Words.{◌≡◌, ◌≢◌, inl, inr, ℕ, ◌+◌, ◌<◌, ◌≤◌, ◌==◌, not, nat_lt, true, false, List, Option, Some, None, refl, sym, ap, ◌∙◌, subst, arith, nat_tests}
 use Rattle.am_reset_runs.proofs.Words.{split_on_bool, eqb-true, place_of_name, has, size, Stamp, Log, top_of_log, image_of_log, members_of_image, Image, Event, Node, Ballot, top, view, members, is_member}
 use Rattle.am_reset_runs.proofs.Words.{World, current, is_stopped, world_after_events, Vote, NamedVote, own_vote, need_set_of, is_waited_for, need_set_without_given_up, best_vote_for_ballot, names_that_pass, HasLearned, IsCurrent, MayVoteFor, MayReset}
-use Rattle.std.specs.Prelude.{◌*◌}
+use Rattle.std.specs.Prelude.{◌*◌, ◌-◌, ◌/◌}
 use Rattle.am_model_laws.specs.Laws.{IsBestVote}
 use Rattle.am_model_laws.proofs.BestVotes.{best_vote_is_greatest}
 use Rattle.am_fetch_laws.specs.Exchanges.{TwoNodes, exchanges}
@@ -32,9 +32,16 @@ module _ (w v : World) (c : ℕ) (sound : VotersAreSound w c) (may : MayReset w 
   now name x = let y = heard.current_of_voter w v c sound may m b h nobody stays come name x in record { now = y.now; runs = y.runs; who = who name }
 
   module _ (best : Vote) (follow : MayFollowVoter (v.nodes voter) (v.nodes c) best b1) where
-    pub reach : (n : ℕ) × (n ≤ top (v.nodes voter)) × LooksAtWhole (v.nodes voter).core.log (fetching_ballot b1 (v.nodes voter).core.who (top (v.nodes voter))) (exchanges n (two_of v voter c)).member_
+    -- as many exchanges as bring all, eight entries each
+    abbrev enough : ℕ
+    enough = (top (v.nodes voter) - top (v.nodes c) + 7) / 8
+
+    pub reach : (n : ℕ) × (n ≤ enough) × LooksAtWhole (v.nodes voter).core.log (fetching_ballot b1 (v.nodes voter).core.who (top (v.nodes voter))) (exchanges n (two_of v voter c)).member_
         × RestsAsVoter (v.nodes voter) (exchanges n (two_of v voter c)).sequencer
-    reach = exchanges_reach_whole_of_voter (two_of v voter c) (top (v.nodes voter)) best b1 follow (omega arith)
+    reach = let missing = follow.list.missing in exchanges_reach_whole_of_voter (two_of v voter c) enough best b1 follow (omega arith)
+
+    pub few_exchanges : reach.0 ≤ ((v.nodes c).core.rules.window + 22) / 8
+    few_exchanges = let room = follow.list.room in let low = follow.list.low in let within = reach.1 in omega arith
 
     abbrev pub more : List Event
     more = events_of_exchanges reach.0 v voter c

@@ -14,7 +14,9 @@ use Rattle.am_safety.proofs.Fitted.{views_fit_until_last_stop}
 use Rattle.am_step_laws.proofs.ViewChanges.{sequencer_is_member}
 use Rattle.am_repair.proofs.Known.OneLists.{listed_is}
 use Rattle.am_repair.proofs.Repairable.OneList.{running_sequencer_has_one_list}
-use Rattle.am_reset_runs.specs.Resetting.{HasAllRunning}
+use Rattle.am_reset_runs.specs.Resetting.{HasAllRunning, TicksOfReset}
+use Rattle.am_reset_runs.proofs.Ticks.{TicksAtMost, ticks_in_turn, exchanges_tick_at}
+use Rattle.std.specs.Prelude.{◌/◌}
 use Rattle.am_model.specs.Ballots.{trim_to_least_taken_by}
 use Rattle.am_ballot_laws.specs.Following.{MayFollowVoter}
 use Rattle.am_trim_laws.specs.Trims.{HasComeToJoin}
@@ -87,16 +89,19 @@ module _ (rules : Rules) (events : List Event) (place : ℕ) (may : MayFound rul
         members_have_taken_trims_until_last_stop rules (events ++ more) q name may spared few (member_has_not_departed ((run rules (events ++ more)).nodes q).status member_) runs_
         (record { small = current_.small; member_ = listed; runs = current_.runs; stays = remains }) come_) member runs
 
+    founding : (v.nodes c).core.rules ≡ rules
+    founding = subst (λ (x : World). (x.nodes c).core.rules ≡ rules) goes_on ((run_trims_only_taken rules (events ++ more) may).kept c).founding
+
     -- its list has room for its members
     room : HasRoomForMembers (v.nodes c)
     room = subst (λ (x : World). HasRoomForMembers (x.nodes c)) goes_on
         (let x = run rules (events ++ more) in
         let n = x.nodes c in
         let laws = run_trims_only_taken rules (events ++ more) may in
-        let founding = (laws.kept c).founding in
+        let same = (laws.kept c).founding in
         let fits = (views_fit_until_last_stop rules (events ++ more) c may spared).each (top n) in
         let used = told_image_is_used n (laws.each c reset.itself.current_.small).fronts in
-        let window = ap (λ (r : Rules). r.window) founding in
+        let window = ap (λ (r : Rules). r.window) same in
         let least = may.window_least in
         let last = ap (λ (i : Image). size (members_of_image i)) (image_at_top_is_told n.core.log) in
         record {
@@ -133,17 +138,21 @@ module _ (rules : Rules) (events : List Event) (place : ℕ) (may : MayFound rul
 
   -- ---- after the votes
 
-  module _ (z : VotesEnd w c sound reset w) (such : All (IsOfReset place) z.more) where
+  module _ (z : VotesEnd w c sound reset w) (such : All (IsOfReset place) z.more) (few : z.many ≤ 16) where
     abbrev u : World
     u = world_after_events w z.more
 
     abbrev Answers : Type 0
-    Answers = (more : List Event) × All (IsOfReset place) more × ResetEnds rules (events ++ more) place
+    Answers = (more : List Event) × All (IsOfReset place) more × TicksOfReset rules place more × ResetEnds rules (events ++ more) place
+
+    -- it ticks once for each vote, and once for eight entries
+    ticks_so_often : (more : List Event) (many : ℕ) → many ≤ 16 + (rules.window + 22) / 8 → TicksAtMost (place_of_name c) more many → TicksOfReset rules place more
+    ticks_so_often more many most h = subst (λ p. TicksOfReset rules p more) same_place (record { few = (let x = h.few in omega arith); others = h.others })
 
     learned : ((best_vote_for_ballot z.node z.ballot).by == z.node.core.who) ≡ true → Answers
     learned own =
         let h = heard.learned_all w u c sound reset z.node z.ballot z.come z.nobody (stays z.more such) (come z.more such) own in
-        (z.more, such, ends z.more such z.node z.ballot h (looked_member h))
+        (z.more, such, ticks_so_often z.more z.many (omega arith) z.ticks, ends z.more such z.node z.ballot h (looked_member h))
 
     module _ (other : ((best_vote_for_ballot z.node z.ballot).by == z.node.core.who) ≡ false) where
       abbrev voter : ℕ
@@ -183,7 +192,11 @@ module _ (rules : Rules) (events : List Event) (place : ℕ) (may : MayFound rul
           let m = fetched.whole w u c sound reset z.node z.ballot z.come z.nobody (stays z.more such) other (whose z.more such) (come z.more such) best follow in
           let b = fetched.b2 w u c sound reset z.node z.ballot z.come z.nobody (stays z.more such) other (whose z.more such) (come z.more such) best follow in
           let there : HasLearnedAll (world_after_events w (z.more ++ further)) c m b = subst (λ (x : World). HasLearnedAll x c m b) (sym whole) h in
-          (z.more ++ further, all_such, ends (z.more ++ further) all_such m b there (looked_member there))
+          let n = (fetched.reach w u c sound reset z.node z.ballot z.come z.nobody (stays z.more such) other (whose z.more such) (come z.more such) best follow).0 in
+          let fetches_few = fetched.few_exchanges w u c sound reset z.node z.ballot z.come z.nobody (stays z.more such) other (whose z.more such) (come z.more such) best follow in
+          let window = ap (λ (r : Rules). r.window) (founding z.more such) in
+          let both = ticks_in_turn (place_of_name c) z.more further z.many n z.ticks (exchanges_tick_at n u voter c) in
+          (z.more ++ further, all_such, ticks_so_often (z.more ++ further) (z.many + n) (omega arith) both, ends (z.more ++ further) all_such m b there (looked_member there))
 
     answers : Answers
     answers = split_on_bool ((best_vote_for_ballot z.node z.ballot).by == z.node.core.who) learned fetched_all
@@ -191,14 +204,14 @@ module _ (rules : Rules) (events : List Event) (place : ℕ) (may : MayFound rul
 -- also in a run that is lawful until the last stop
 pub resets_are_answered_until_last_stop : (rules : Rules) (events : List Event) (place resilience : ℕ) → MayFound rules → place < 16 → LawfulUntilLastStop rules events
     → MayReset (run rules events) (current (run rules events) place) → NobodyAsks (run rules events)
-    → (more : List Event) × All (IsOfReset place) more × ResetEnds rules (events ++ more) place
+    → (more : List Event) × All (IsOfReset place) more × TicksOfReset rules place more × ResetEnds rules (events ++ more) place
 resets_are_answered_until_last_stop rules events place resilience may low lawful reset asks =
     let w = run rules events in
     let c = current w place in
     let s = sound rules events place may low lawful reset asks in
     let z = votes_end_after_reset w c s reset resilience in
-    answers rules events place may low lawful reset asks z
-    (subst (λ k. All (IsOfReset k) z.more) (same_place rules events place may low lawful reset asks) z.such)
+    answers rules events place may low lawful reset asks z.0
+    (subst (λ k. All (IsOfReset k) z.0.more) (same_place rules events place may low lawful reset asks) z.0.such) z.1
 
 pub resets_are_answered : ResetsAreAnswered
 resets_are_answered rules events place resilience may low lawful =

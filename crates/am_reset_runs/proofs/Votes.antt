@@ -17,7 +17,11 @@ use Rattle.am_fetch_runs.proofs.Gathering.{exchanges_are_of_such}
 use Rattle.am_reset_runs.proofs.Parts.{stamp_of_reset, VotersAreSound, VotesCome}
 use Rattle.am_reset_runs.proofs.Counts.{somebody_is_in, sixteen_that_pass}
 use Rattle.am_reset_runs.proofs.Voting as voting
-use Rattle.am_reset_runs.proofs.Voting.{unheard}
+use Rattle.am_reset_runs.proofs.Voting.{unheard, unvoted_places}
+use Rattle.am_reset_runs.proofs.Ticks.{TicksAtMost, no_events_tick, then_no_tick, ticks_in_turn, exchanges_tick_at}
+use Rattle.am_reset_runs.proofs.Words.{current}
+use Rattle.am_abstract_group.proofs.Puts.{count_le_of_weaker_test}
+unfoldable use Rattle.am_abstract_group.specs.Group.{count_of_passing_below}
 
 -- ticks and hearings are of a reset
 pub spread_events : (place : ℕ) (events : List Event) → All IsTickOrHearing events → All (IsOfReset place) events
@@ -55,6 +59,9 @@ module _ (w : World) (c : ℕ) (sound : VotersAreSound w c) (may : MayReset w c)
     ballot : Ballot
     come : VotesCome w (world_after_events v more) c node ballot
     fewer : unheard w ballot < unheard w b
+    many : ℕ
+    ticks : TicksAtMost place more many
+    spent : many + unvoted_places w ballot ≤ unvoted_places w b
 
   one_more : (v : World) (m : Node) (b : Ballot) → VotesCome w v c m b → nat_lt 0 (size (names_that_pass (is_waited_for m.core.who b) (need_set_of m b))) ≡ true → VotesGoOn v b
   unfolding world_after_events
@@ -72,6 +79,9 @@ module _ (w : World) (c : ℕ) (sound : VotersAreSound w c) (may : MayReset w c)
           ballot = _;
           come = voting.come_after w c sound may v m b h names refl some k goes waited.unvoted waited.kept waited.other;
           fewer = voting.fewer_after w c sound may v m b h names refl some k goes waited.unvoted waited.kept waited.other;
+          many = 0;
+          ticks = then_no_tick place (event_at place (act.GiveUp k)) [] 0 refl (no_events_tick place);
+          spent = (let less = voting.no_more_places w c sound may v m b h names refl some k goes waited.unvoted waited.kept waited.other in omega arith);
         }
         | inr votes_ ↦ record {
           more = events_of_exchanges 1 v k c;
@@ -80,6 +90,9 @@ module _ (w : World) (c : ℕ) (sound : VotersAreSound w c) (may : MayReset w c)
           ballot = _;
           come = voting.come_with_vote w c sound may v m b h names refl some k votes_ pick.1 waited.unvoted waited.kept waited.other;
           fewer = voting.fewer_with_vote w c sound may v m b h names refl some k votes_ pick.1 waited.unvoted waited.kept waited.other;
+          many = 1;
+          ticks = exchanges_tick_at 1 v k c;
+          spent = (let less = voting.fewer_places w c sound may v m b h names refl some k votes_ pick.1 waited.unvoted waited.kept waited.other in omega arith);
         }
       ]
 
@@ -92,24 +105,33 @@ module _ (w : World) (c : ℕ) (sound : VotersAreSound w c) (may : MayReset w c)
     pub ballot : Ballot
     pub come : VotesCome w (world_after_events v more) c node ballot
     pub nobody : nat_lt 0 (size (names_that_pass (is_waited_for node.core.who ballot) (need_set_of node ballot))) ≡ false
+    pub many : ℕ
+    pub ticks : TicksAtMost place more many
 
-  votes_end : (fuel : ℕ) (v : World) (m : Node) (b : Ballot) → VotesCome w v c m b → unheard w b < fuel → VotesEnd v
+  votes_end : (fuel : ℕ) (v : World) (m : Node) (b : Ballot) → VotesCome w v c m b → unheard w b < fuel → (z : VotesEnd v) × (z.many ≤ unvoted_places w b)
   unfolding world_after_events
   votes_end zero v m b h low = absurd (omega arith)
   votes_end (suc fuel) v m b h low = split_on_bool (nat_lt 0 (size (names_that_pass (is_waited_for m.core.who b) (need_set_of m b))))
       (λ some.
       let a = one_more v m b h some in
       let fewer = a.fewer in
-      let z = votes_end fuel (world_after_events v a.more) a.node a.ballot a.come (omega arith) in
-      record {
-        more = a.more ++ z.more;
-        such = All-append (IsOfReset place) a.more z.more a.such z.such;
-        node = z.node;
-        ballot = z.ballot;
-        come = subst (λ (x : World). VotesCome w x c z.node z.ballot) (sym (runs_go_on v a.more z.more)) z.come;
-        nobody = z.nobody;
-      })
-      (λ none. record { more = []; such = All-nil (IsOfReset place); node = m; ballot = b; come = h; nobody = none })
+      let spent = a.spent in
+      let next = votes_end fuel (world_after_events v a.more) a.node a.ballot a.come (omega arith) in
+      let z = next.0 in
+      let left = next.1 in (
+        record {
+          more = a.more ++ z.more;
+          such = All-append (IsOfReset place) a.more z.more a.such z.such;
+          node = z.node;
+          ballot = z.ballot;
+          come = subst (λ (x : World). VotesCome w x c z.node z.ballot) (sym (runs_go_on v a.more z.more)) z.come;
+          nobody = z.nobody;
+          many = a.many + z.many;
+          ticks = ticks_in_turn place a.more z.more a.many z.many a.ticks z.ticks;
+        },
+        omega arith,
+      ))
+      (λ none. (record { more = []; such = All-nil (IsOfReset place); node = m; ballot = b; come = h; nobody = none; many = 0; ticks = no_events_tick place }, omega arith))
 
   -- ---- the reset
 
@@ -156,17 +178,24 @@ module _ (w : World) (c : ℕ) (sound : VotersAreSound w c) (may : MayReset w c)
       looked = moved.node ∙ resets_look (w.nodes c) 1 resilience may_begin;
     }
 
-    -- a reset, and the votes that come then
-    pub votes_end_after_reset : VotesEnd w
-    unfolding world_after_events
+    -- a reset, and the votes that come then, one tick for each of at most sixteen places
+    pub votes_end_after_reset : (z : VotesEnd w) × (z.many ≤ 16)
+    unfolding world_after_events count_of_passing_below
     votes_end_after_reset =
         let low : unheard w first < suc (unheard w first) = omega arith in
-        let z = votes_end (suc (unheard w first)) (happens w e) (node_with_promise (w.nodes c) (stamp_of_reset w c)) first begun low in
-        record {
-          more = e ∷ z.more;
-          such = All-cons (IsOfReset place) e z.more (resets resilience) z.such;
-          node = z.node;
-          ballot = z.ballot;
-          come = z.come;
-          nobody = z.nobody;
-        }
+        let next = votes_end (suc (unheard w first)) (happens w e) (node_with_promise (w.nodes c) (stamp_of_reset w c)) first begun low in
+        let z = next.0 in
+        let left = next.1 in
+        let all = count_le_of_weaker_test (λ place. not (is_some (first.votes (current w place)))) (λ place. true) 16 (λ j t. refl) in (
+          record {
+            more = e ∷ z.more;
+            such = All-cons (IsOfReset place) e z.more (resets resilience) z.such;
+            node = z.node;
+            ballot = z.ballot;
+            come = z.come;
+            nobody = z.nobody;
+            many = z.many;
+            ticks = then_no_tick place e z.more z.many refl z.ticks;
+          },
+          omega arith,
+        )

@@ -56,9 +56,13 @@ still_voted h same = record {
 
 -- ---- what a ballot hasn't heard of
 
--- names that haven't voted, and stopped ones that weren't given up
+-- places whose current names haven't voted
+abbrev pub unvoted_places : World → Ballot → ℕ
+unvoted_places w b = count_of_passing_below (λ place. not (is_some (b.votes (current w place)))) 16
+
+-- those, and stopped names that weren't given up
 abbrev pub unheard : World → Ballot → ℕ
-unheard w b = count_of_passing_below (λ name. not (is_some (b.votes name))) 256 + count_by (λ name. not (b.given_up name)) w.stopped
+unheard w b = unvoted_places w b + count_by (λ name. not (b.given_up name)) w.stopped
 
 module _ (w : World) (c : ℕ) (sound : VotersAreSound w c) (may : MayReset w c) where
   abbrev st : Stamp
@@ -178,7 +182,7 @@ module _ (w : World) (c : ℕ) (sound : VotersAreSound w c) (may : MayReset w c)
 
         -- ---- a name is given up
 
-        module _ (k : ℕ) (goes : is_stopped w k ≡ true) (unvoted : b.votes k ≡ None) (kept : b.given_up k ≡ false) (other : (k == c) ≡ false) where
+        module _ (k : ℕ) (goes : is_stopped w k ≡ true) (unvoted_ : b.votes k ≡ None) (kept : b.given_up k ≡ false) (other : (k == c) ≡ false) where
           abbrev e : Event
           e = event_at (place_of_name c) (act.GiveUp k)
 
@@ -225,17 +229,20 @@ module _ (w : World) (c : ℕ) (sound : VotersAreSound w c) (may : MayReset w c)
             lives = moved.lives ∙ h.lives;
             stopped = moved.stopped ∙ h.stopped;
             alike = λ j f none. moved.others j f ∙ split_on_bool (j == k)
-                (λ t. h.alike j f (ap b.votes (eqb-true j k t) ∙ unvoted))
+                (λ t. h.alike j f (ap b.votes (eqb-true j k t) ∙ unvoted_))
                 (λ g. h.alike j f (rw g at none));
             looked = moved.node ∙ give_ups_look (v.nodes c) b1 k coordinates_now not_itself;
           }
 
+          pub no_more_places : unvoted_places w b2 ≤ unvoted_places w b
+          no_more_places = count_le_of_weaker_test (λ place. not (is_some (b2.votes (current w place)))) (λ place. not (is_some (b.votes (current w place)))) 16
+              (λ j t. split_on_bool (current w j == k)
+              (λ same. ap (λ o. not (is_some o)) (ap b.votes (eqb-true (current w j) k same) ∙ unvoted_))
+              (λ f. rw f at t))
+
           pub fewer_after : unheard w b2 < unheard w b
           fewer_after =
-              let votes_ = count_le_of_weaker_test (λ name. not (is_some (b2.votes name))) (λ name. not (is_some (b.votes name))) 256
-              (λ j t. split_on_bool (j == k)
-              (λ same. ap (λ o. not (is_some o)) (ap b.votes (eqb-true j k same) ∙ unvoted))
-              (λ f. rw f at t)) in
+              let places = no_more_places in
               let same : (k == k) ≡ true = itself_is_equal k in
               let ups = count_lt_of_weaker (λ name. not (b2.given_up name)) (λ name. not (b.given_up name)) w.stopped k
               (λ j t. split_on_bool (j == k)
@@ -245,12 +252,12 @@ module _ (w : World) (c : ℕ) (sound : VotersAreSound w c) (may : MayReset w c)
 
         -- ---- a name votes
 
-        module _ (k : ℕ) (votes_ : MayVoteFor w c k) (waited : has names k ≡ true) (unvoted : b.votes k ≡ None) (kept : b.given_up k ≡ false) (other : (k == c) ≡ false) where
+        module _ (k : ℕ) (votes_ : MayVoteFor w c k) (waited : has names k ≡ true) (unvoted_ : b.votes k ≡ None) (kept : b.given_up k ≡ false) (other : (k == c) ≡ false) where
           abbrev v2 : World
           v2 = world_after_events v (events_of_exchanges 1 v k c)
 
           same_voter : v.nodes k ≡ w.nodes k
-          same_voter = h.alike k other unvoted
+          same_voter = h.alike k other unvoted_
 
           both : BothAreThere v k c
           both = record {
@@ -345,12 +352,15 @@ module _ (w : World) (c : ℕ) (sound : VotersAreSound w c) (may : MayReset w c)
                 looked = ap (λ (t : TwoNodes). t.member_) exchanged;
               }
 
+          pub fewer_places : unvoted_places w b3 < unvoted_places w b
+          fewer_places =
+              let now = votes_.current_.now in
+              let low : place_of_name k < 16 = omega arith in
+              let same : (current w (place_of_name k) == k) ≡ true = ap (λ i. i == k) now ∙ itself_is_equal k in
+              count_lt_of_weaker_test (λ place. not (is_some (b3.votes (current w place)))) (λ place. not (is_some (b.votes (current w place)))) 16 (place_of_name k)
+              (λ j t. split_on_bool (current w j == k)
+              (λ same_. ap (λ o. not (is_some o)) (ap b.votes (eqb-true (current w j) k same_) ∙ unvoted_))
+              (λ f. rw f at t)) low (rw same refl) (ap (λ i. not (is_some (b.votes i))) now ∙ ap (λ o. not (is_some o)) unvoted_)
+
           pub fewer_with_vote : unheard w b3 < unheard w b
-          fewer_with_vote =
-              let small = votes_.current_.small in
-              let same : (k == k) ≡ true = itself_is_equal k in
-              let votes_less = count_lt_of_weaker_test (λ name. not (is_some (b3.votes name))) (λ name. not (is_some (b.votes name))) 256 k
-              (λ j t. split_on_bool (j == k)
-              (λ same_. ap (λ o. not (is_some o)) (ap b.votes (eqb-true j k same_) ∙ unvoted))
-              (λ f. rw f at t)) small (rw same refl) (ap (λ o. not (is_some o)) unvoted) in
-              omega arith
+          fewer_with_vote = let places = fewer_places in omega arith

@@ -1,9 +1,10 @@
 -- What is claimed of one member that resets, where nobody asks to join: it decides a view, and all that the view's members sent is answered.
-use Rattle.std.specs.Prelude.{◌≡◌, ◌⊎◌, ℕ, ◌<◌, List, ◌++◌, Some, true, false, ◌==◌, All}
+use Rattle.std.specs.Prelude.{◌≡◌, ◌⊎◌, ℕ, ◌<◌, List, ◌++◌, Some, true, false, ◌==◌, ◌&&◌, ◌+◌, ◌/◌, ◌≤◌, Bool, count_by, All}
 use Rattle.am_base.specs.declared.outcome.Outcome.TheVariants as said
 use Rattle.am_base.specs.Founding.{Rules, MayFound}
 use Rattle.am_base.specs.Names.{has}
 use Rattle.am_base.specs.Stamps.{stamp_is_less}
+use Rattle.am_group.specs.declared.event.Act.{Act}
 use Rattle.am_group.specs.declared.event.Act.TheVariants as act
 use Rattle.am_group.specs.declared.event.Event.{Event}
 use Rattle.am_model.specs.Node.{Node, Ballot, members, is_member}
@@ -40,6 +41,19 @@ pub data IsOfReset (place : ℕ) : Event → Type 0 where
   gives_up : (name : ℕ) → IsOfReset place (event_at place (act.GiveUp name))
   spreads : (e : Event) → IsTickOrHearing e → IsOfReset place e
 
+-- how often a place ticks
+abbrev pub is_tick : Act → Bool
+is_tick act.Tick = true
+is_tick _ = false
+
+abbrev pub ticks_at : ℕ → List Event → ℕ
+ticks_at place events = count_by (λ e. (e.node == place) && is_tick e.act) events
+
+-- in a reset its place ticks no more than so often, and no other place ticks
+pub record TicksOfReset (rules : Rules) (place : ℕ) (more : List Event) : Type 0 where
+  pub few : ticks_at place more ≤ 16 + (rules.window + 22) / 8
+  pub others : (other : ℕ) → (other == place) ≡ false → ticks_at other more ≡ 0
+
 -- its View doesn't fit, and it gave up no member of its list
 pub record HasNoRoom (m : Node) : Type 0 where
   pub ballot : Ballot
@@ -69,7 +83,7 @@ ResetEnds rules events place = HasNoRoom ((run rules events).nodes (current (run
 abbrev pub ResetsAreAnswered : Type 0
 ResetsAreAnswered = (rules : Rules) (events : List Event) (place resilience : ℕ) → MayFound rules → place < 16 → lawful_front rules events ≡ events
     → MayReset (run rules events) (current (run rules events) place) → NobodyAsks (run rules events)
-    → (more : List Event) × All (IsOfReset place) more × ResetEnds rules (events ++ more) place
+    → (more : List Event) × All (IsOfReset place) more × TicksOfReset rules place more × ResetEnds rules (events ++ more) place
 
 -- whatever names have promised: a member whose list has another name may reset again and again
 pub record MayResetAgain (w : World) (c : ℕ) : Type 0 where
@@ -84,4 +98,4 @@ pub record MayResetAgain (w : World) (c : ℕ) : Type 0 where
 abbrev pub RepeatedResetsAreAnswered : Type 0
 RepeatedResetsAreAnswered = (rules : Rules) (events : List Event) (place resilience : ℕ) → MayFound rules → place < 16 → lawful_front rules events ≡ events
     → MayResetAgain (run rules events) (current (run rules events) place) → NobodyAsks (run rules events)
-    → (more : List Event) × All (IsOfReset place) more × ResetEnds rules (events ++ more) place
+    → (more : List Event) × All (IsOfReset place) more × TicksOfReset rules place more × ResetEnds rules (events ++ more) place
