@@ -4,6 +4,7 @@ pub mod Behind
 pub mod Alike
 pub mod Lagging
 pub mod Events
+pub mod Ticks
 pub mod Gathering
 pub mod Ballots
 pub mod Votes

@@ -1,7 +1,8 @@
 -- The events of exchanges: how a member that lags behind comes to its sequencer's view in a run.
-use Rattle.std.specs.Prelude.{◌≡◌, ℕ, zero, suc, ◌+◌, ◌-◌, ◌*◌, ◌≤◌, List, [], ◌∷◌, ◌++◌, length}
+use Rattle.std.specs.Prelude.{Bool, true, false, ◌&&◌, ◌==◌, count_by, ◌≡◌, ℕ, zero, suc, ◌+◌, ◌-◌, ◌*◌, ◌≤◌, List, [], ◌∷◌, ◌++◌, length}
 use Rattle.am_base.specs.Founding.{Rules, MayFound}
 use Rattle.am_base.specs.Names.{place_of_name}
+use Rattle.am_group.specs.declared.event.Act.{Act}
 use Rattle.am_group.specs.declared.event.Act.TheVariants as act
 use Rattle.am_group.specs.declared.event.Event.{Event}
 use Rattle.am_model.specs.Node.{top, image_of_node}
@@ -45,3 +46,11 @@ LaggersReachViewInRuns = (rules : Rules) (events : List Event) (q name many : �
     → (image_of_node ((run rules events).nodes q)).view_number ≤ top ((run rules events).nodes name) + 8 * many
     → (n : ℕ) × (n ≤ many) × ActsInViewOf ((run rules events).nodes q)
     ((run rules (events ++ events_of_exchanges n (run rules events) q name)).nodes name)
+
+-- how often a place ticks
+abbrev pub is_tick : Act → Bool
+is_tick act.Tick = true
+is_tick _ = false
+
+abbrev pub ticks_at : ℕ → List Event → ℕ
+ticks_at place events = count_by (λ e. (e.node == place) && is_tick e.act) events

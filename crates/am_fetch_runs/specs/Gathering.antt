@@ -1,5 +1,5 @@
 -- How all members of a running sequencer's list come to act in its view.
-use Rattle.std.specs.Prelude.{◌≡◌, ℕ, ◌<◌, ◌≤◌, List, ◌++◌, true, false, All}
+use Rattle.std.specs.Prelude.{◌≡◌, ℕ, ◌+◌, ◌/◌, ◌<◌, ◌≤◌, List, ◌++◌, true, false, All}
 use Rattle.am_base.specs.Founding.{Rules, MayFound}
 use Rattle.am_base.specs.Names.{place_of_name, has}
 use Rattle.am_base.specs.Stamps.{stamp_is_less}
@@ -11,6 +11,7 @@ use Rattle.am_group_defs.specs.Lawful.{lawful_front}
 use Rattle.am_group_defs.specs.Settle.{event_at}
 use Rattle.am_group_defs.specs.World.{World, current, is_stopped, run}
 use Rattle.am_fetch_laws.specs.Exchanges.{ActsInViewOf}
+use Rattle.am_fetch_runs.specs.Events.{ticks_at}
 
 -- a current name that runs
 pub record IsCurrent (w : World) (name : ℕ) : Type 0 where
@@ -41,7 +42,11 @@ abbrev pub AllActAfter : Rules → List Event → List Event → ℕ → Type 0
 AllActAfter rules events more q = (name : ℕ) → has (members ((run rules events).nodes q)) name ≡ true
     → ActsInViewOf ((run rules events).nodes q) ((run rules (events ++ more)).nodes name)
 
+-- in them each place ticks no more than so often
+abbrev pub TicksOfGathering : Rules → List Event → Type 0
+TicksOfGathering rules more = (place : ℕ) → ticks_at place more ≤ (rules.window + 22) / 8
+
 -- of every lawful run
 abbrev pub MembersGather : Type 0
 MembersGather = (rules : Rules) (events : List Event) (q : ℕ) → MayFound rules → lawful_front rules events ≡ events → MayGather (run rules events) q
-    → (more : List Event) × All IsTickOrHearing more × AllActAfter rules events more q
+    → (more : List Event) × All IsTickOrHearing more × TicksOfGathering rules more × AllActAfter rules events more q

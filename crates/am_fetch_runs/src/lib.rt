@@ -21,7 +21,7 @@ pub fn laggers_catch_up()
 {}
 
 /// Where a lawful run ends with a sequencer whose members are all there, have promised no more than its view, and have taken what it trims,
-/// there are ticks and hearings after which each of them acts in that view.
+/// there are ticks and hearings after which each of them acts in that view. In them each place ticks at most (window + 22) / 8 times.
 pub fn members_gather()
     ensures { MembersGather }
 {}

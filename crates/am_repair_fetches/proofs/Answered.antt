@@ -51,6 +51,7 @@ sends_are_answered_later_until_last_stop rules events place may low until later 
     let long = ap (λ (l : Log). top_of_log l) log in (
       h.more,
       h.such,
+      h.few,
       λ further name there.
           (let inside = same_members name ∙ there in
           let rounds = round_count rules + 6 * unnumbered_in w q + further in

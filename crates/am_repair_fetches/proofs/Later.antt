@@ -14,7 +14,7 @@ use Rattle.am_repair.proofs.Known.ReportedRuns.{known_is_taken}
 use Rattle.am_lawful_runs.proofs.Spared.{LawfulUntilLastStop, lawful_is_until_last_stop}
 use Rattle.am_repair.proofs.Repairable.OneList.{running_sequencer_has_one_list}
 use Rattle.am_repair.proofs.Repairable.Counted.{counted_names_are_members}
-use Rattle.am_fetch_runs.specs.Gathering.{IsTickOrHearing}
+use Rattle.am_fetch_runs.specs.Gathering.{IsTickOrHearing, TicksOfGathering}
 use Rattle.am_fetch_runs.proofs.Gathering.{AllGathered, members_gather_until_last_stop}
 use Rattle.am_repair_fetches.specs.Later.{MayRepairLater, GroupsMayBeRepairedLater, GroupsAreRepairedLater}
 use Rattle.am_repair_fetches.proofs.Leaving.{nobody_leaves_by_events}
@@ -146,6 +146,7 @@ module _ (rules : Rules) (events more : List Event) (place : ℕ) (may : MayFoun
 pub record Later (rules : Rules) (events : List Event) (place : ℕ) : Type 0 where
   pub more : List Event
   pub such : All IsTickOrHearing more
+  pub few : TicksOfGathering rules more
   pub all : AllGathered (run rules events) (run rules (events ++ more)) (current (run rules events) place)
   pub may : MayRepair (run rules (events ++ more)) place
   pub agree : Agree (run rules (events ++ more)) ((run rules (events ++ more)).nodes (current (run rules (events ++ more)) place))
@@ -157,10 +158,11 @@ gathers_later rules events place may low until later =
     let w = run rules events in
     let q = current w place in
     let g = members_gather_until_last_stop rules events q may until later.gathers in
-    let all : AllGathered w (run rules (events ++ g.0)) q = subst (λ (u : World). AllGathered w u q) (sym (runs_go_on (start rules) events g.0)) g.2 in
+    let all : AllGathered w (run rules (events ++ g.0)) q = subst (λ (u : World). AllGathered w u q) (sym (runs_go_on (start rules) events g.0)) g.3 in
     record {
       more = g.0;
       such = g.1;
+      few = g.2;
       all = all;
       may = gathered_may_repair rules events g.0 place may low until later g.1 all;
       agree = gathered_lists_agree rules events g.0 place may low until later g.1 all;
@@ -173,7 +175,7 @@ pub same_list_later : (rules : Rules) (events : List Event) (place : ℕ) (h : L
 same_list_later rules events place h = ap (λ i. ((run rules (events ++ h.more)).nodes i).core.log) h.same ∙ h.all.lead.log
 
 pub groups_may_be_repaired_later : GroupsMayBeRepairedLater
-groups_may_be_repaired_later rules events place may small lawful later = let h = gathers_later rules events place may small (lawful_is_until_last_stop rules events lawful) later in (h.more, h.such, h.may)
+groups_may_be_repaired_later rules events place may small lawful later = let h = gathers_later rules events place may small (lawful_is_until_last_stop rules events lawful) later in (h.more, h.such, h.few, h.may)
 
 pub groups_are_repaired_later : GroupsAreRepairedLater
 groups_are_repaired_later rules events place may small lawful later =
@@ -182,6 +184,7 @@ groups_are_repaired_later rules events place may small lawful later =
     let log = same_list_later rules events place h in (
       h.more,
       h.such,
+      h.few,
       λ name listed.
           (let there : has (members (v.nodes (current v place))) name ≡ true = ap (λ (l : Log). has (members_of_image (image_of_log l)) name) log ∙ listed in
           subst (λ n. HasCaughtUp ((world_after_events v (settle_events rules v)).nodes name) n) (ap (λ (l : Log). top_of_log l) log)

@@ -7,7 +7,7 @@ use Rattle.am_group.specs.declared.event.Event.{Event}
 use Rattle.am_model.specs.Node.{top, view, image_of_node, members, is_member, is_sequencer}
 use Rattle.am_group_defs.specs.Lawful.{lawful_front}
 use Rattle.am_group_defs.specs.World.{World, current, is_stopped, run}
-use Rattle.am_fetch_runs.specs.Gathering.{IsCurrent, IsTickOrHearing}
+use Rattle.am_fetch_runs.specs.Gathering.{IsCurrent, IsTickOrHearing, TicksOfGathering}
 use Rattle.am_repair.specs.Claim.{IsOut}
 use Rattle.am_repair_takes.specs.Resting.{NobodyAsks}
 use Rattle.am_trim_laws.specs.Trims.{HasComeToJoin}
@@ -37,7 +37,7 @@ pub record MayRepairPastJoin (w : World) (place : ℕ) : Type 0 where
 abbrev pub GroupsPastJoinAreRepaired : Type 0
 GroupsPastJoinAreRepaired = (rules : Rules) (events : List Event) (place : ℕ) → MayFound rules → place < 16 → lawful_front rules events ≡ events
     → MayRepairPastJoin (run rules events) place
-    → (more : List Event) × All IsTickOrHearing more × IsRepairedAfter rules events more place
+    → (more : List Event) × All IsTickOrHearing more × TicksOfGathering rules more × IsRepairedAfter rules events more place
 
 -- ---- a view that was just decided
 

@@ -7,7 +7,7 @@ use Rattle.am_model.specs.Node.{top, members}
 use Rattle.am_group_defs.specs.Lawful.{lawful_front}
 use Rattle.am_group_defs.specs.Settle.{settle_events}
 use Rattle.am_group_defs.specs.World.{World, current, is_stopped, world_after_events, run}
-use Rattle.am_fetch_runs.specs.Gathering.{MayGather, IsTickOrHearing}
+use Rattle.am_fetch_runs.specs.Gathering.{MayGather, IsTickOrHearing, TicksOfGathering}
 use Rattle.am_repair.specs.Claim.{IsOut, MayRepair, HasCaughtUp}
 
 -- as where a group may be repaired, but that members of the sequencer's list may lack its View, which they have promised and may fetch
@@ -20,7 +20,7 @@ pub record MayRepairLater (w : World) (place : ℕ) : Type 0 where
 abbrev pub GroupsMayBeRepairedLater : Type 0
 GroupsMayBeRepairedLater = (rules : Rules) (events : List Event) (place : ℕ) → MayFound rules → place < 16 → lawful_front rules events ≡ events
     → MayRepairLater (run rules events) place
-    → (more : List Event) × All IsTickOrHearing more × MayRepair (run rules (events ++ more)) place
+    → (more : List Event) × All IsTickOrHearing more × TicksOfGathering rules more × MayRepair (run rules (events ++ more)) place
 
 -- and the schedule then brings each member to where the sequencer stood
 abbrev pub IsRepairedAfter : Rules → List Event → List Event → ℕ → Type 0
@@ -30,4 +30,4 @@ IsRepairedAfter rules events more place = let w = run rules events in let v = ru
 abbrev pub GroupsAreRepairedLater : Type 0
 GroupsAreRepairedLater = (rules : Rules) (events : List Event) (place : ℕ) → MayFound rules → place < 16 → lawful_front rules events ≡ events
     → MayRepairLater (run rules events) place
-    → (more : List Event) × All IsTickOrHearing more × IsRepairedAfter rules events more place
+    → (more : List Event) × All IsTickOrHearing more × TicksOfGathering rules more × IsRepairedAfter rules events more place

@@ -7,7 +7,7 @@ use Rattle.am_model.specs.Node.{top, image_of_node, members}
 use Rattle.am_group_defs.specs.Lawful.{lawful_front}
 use Rattle.am_group_defs.specs.Settle.{round_count}
 use Rattle.am_group_defs.specs.World.{World, current, run}
-use Rattle.am_fetch_runs.specs.Gathering.{MayGather, IsTickOrHearing}
+use Rattle.am_fetch_runs.specs.Gathering.{MayGather, IsTickOrHearing, TicksOfGathering}
 use Rattle.am_repair_takes.specs.Resting.{NobodyAsks, unnumbered_in}
 use Rattle.am_repair_takes.specs.Rest.{HasNoPending}
 use Rattle.am_repair_takes.specs.Taking.{HasAll, after_rounds}
@@ -26,7 +26,7 @@ AllAnsweredAfter rules events more place rounds = let w = run rules events in le
 -- there are ticks and hearings, and then as many taking rounds as repair a group, six more for each send of its members that has no number, and any
 -- more of them, after which that is so
 abbrev pub AreAnsweredLater : Rules → List Event → ℕ → Type 0
-AreAnsweredLater rules events place = (more : List Event) × All IsTickOrHearing more × ((further : ℕ) → AllAnsweredAfter rules events more place
+AreAnsweredLater rules events place = (more : List Event) × All IsTickOrHearing more × TicksOfGathering rules more × ((further : ℕ) → AllAnsweredAfter rules events more place
     (round_count rules + 6 * unnumbered_in (run rules events) (current (run rules events) place) + further))
 
 -- of every lawful run after which a group may be repaired later, and in which nobody who runs asks to join

@@ -7,13 +7,14 @@ ghost use Rattle.am_repair_fetches.specs.Later.{GroupsAreRepairedLater, GroupsMa
 ghost use Rattle.am_repair_fetches.specs.Rest.{DecidedViewsAreAnswered, SendsAreAnsweredLater};
 
 /// Where a lawful run ends with a group that could be repaired if all members of its sequencer's list had the View, there are ticks and hearings
-/// after which it may be repaired. The lossless schedule then repairs it, up to where its sequencer stood first.
+/// after which it may be repaired, at most (window + 22) / 8 ticks of a place. The lossless schedule then repairs it, up to where its sequencer
+/// stood first.
 pub fn groups_are_repaired_later()
     ensures may { GroupsMayBeRepairedLater }
     ensures repaired { GroupsAreRepairedLater }
 {}
 
-/// Where nobody who runs asks to join either, there are ticks and hearings after which so many rounds in which applications take, and any more,
+/// Where nobody who runs asks to join either, there are as few ticks and hearings after which so many rounds in which applications take, and any more,
 /// have all answered: each member of the sequencer's list has all up to where it stood first, its application too, and no own send is pending.
 /// So it is where a view was just decided, whose members run and don't leave, whoever stopped or leaves elsewhere.
 pub fn sends_are_answered_later()

@@ -26,7 +26,7 @@ use Rattle.am_fetch_runs.proofs.Events.{IsThereNow, OneMoved, stepped, there_aft
 use Rattle.am_repair_takes.specs.Resting.{NobodyAsks}
 use Rattle.am_reset_runs.specs.Resetting.{MayVote, MayResetAgain, RepeatedResetsAreAnswered}
 use Rattle.am_reset_runs.proofs.Come.{come_stays}
-use Rattle.am_reset_runs.proofs.Ticks.{TicksAtMost, no_events_tick, then_no_tick, ticks_in_turn}
+use Rattle.am_fetch_runs.proofs.Ticks.{TicksAtMost, no_events_tick, then_no_tick, ticks_in_turn}
 use Rattle.std.specs.Prelude.{◌/◌}
 use Rattle.am_reset_runs.proofs.Quieter.{reset_stops_nobody, nobody_asks_after_reset}
 use Rattle.am_reset_runs.proofs.Resetting.{resets_are_answered_until_last_stop}

@@ -2,7 +2,6 @@ mod Words
 pub mod Parts
 mod Sound
 mod Counts
-mod Ticks
 pub mod Voting
 pub mod Votes
 pub mod Heard

@@ -15,7 +15,7 @@ use Rattle.am_step_laws.proofs.ViewChanges.{sequencer_is_member}
 use Rattle.am_repair.proofs.Known.OneLists.{listed_is}
 use Rattle.am_repair.proofs.Repairable.OneList.{running_sequencer_has_one_list}
 use Rattle.am_reset_runs.specs.Resetting.{HasAllRunning, TicksOfReset}
-use Rattle.am_reset_runs.proofs.Ticks.{TicksAtMost, ticks_in_turn, exchanges_tick_at}
+use Rattle.am_fetch_runs.proofs.Ticks.{TicksAtMost, ticks_in_turn, exchanges_tick_at}
 use Rattle.std.specs.Prelude.{◌/◌}
 use Rattle.am_model.specs.Ballots.{trim_to_least_taken_by}
 use Rattle.am_ballot_laws.specs.Following.{MayFollowVoter}

@@ -18,7 +18,7 @@ use Rattle.am_reset_runs.proofs.Parts.{stamp_of_reset, VotersAreSound, VotesCome
 use Rattle.am_reset_runs.proofs.Counts.{somebody_is_in, sixteen_that_pass}
 use Rattle.am_reset_runs.proofs.Voting as voting
 use Rattle.am_reset_runs.proofs.Voting.{unheard, unvoted_places}
-use Rattle.am_reset_runs.proofs.Ticks.{TicksAtMost, no_events_tick, then_no_tick, ticks_in_turn, exchanges_tick_at}
+use Rattle.am_fetch_runs.proofs.Ticks.{TicksAtMost, no_events_tick, then_no_tick, ticks_in_turn, exchanges_tick_at}
 use Rattle.am_reset_runs.proofs.Words.{current}
 use Rattle.am_abstract_group.proofs.Puts.{count_le_of_weaker_test}
 unfoldable use Rattle.am_abstract_group.specs.Group.{count_of_passing_below}

@@ -1,16 +1,16 @@
 -- What is claimed of one member that resets, where nobody asks to join: it decides a view, and all that the view's members sent is answered.
-use Rattle.std.specs.Prelude.{◌≡◌, ◌⊎◌, ℕ, ◌<◌, List, ◌++◌, Some, true, false, ◌==◌, ◌&&◌, ◌+◌, ◌/◌, ◌≤◌, Bool, count_by, All}
+use Rattle.std.specs.Prelude.{◌≡◌, ◌⊎◌, ℕ, ◌<◌, List, ◌++◌, Some, true, false, ◌==◌, ◌+◌, ◌/◌, ◌≤◌, All}
 use Rattle.am_base.specs.declared.outcome.Outcome.TheVariants as said
 use Rattle.am_base.specs.Founding.{Rules, MayFound}
 use Rattle.am_base.specs.Names.{has}
 use Rattle.am_base.specs.Stamps.{stamp_is_less}
-use Rattle.am_group.specs.declared.event.Act.{Act}
 use Rattle.am_group.specs.declared.event.Act.TheVariants as act
 use Rattle.am_group.specs.declared.event.Event.{Event}
 use Rattle.am_model.specs.Node.{Node, Ballot, members, is_member}
 use Rattle.am_group_defs.specs.Lawful.{lawful_front}
 use Rattle.am_group_defs.specs.Settle.{event_at}
 use Rattle.am_group_defs.specs.World.{World, current, is_stopped, run}
+use Rattle.am_fetch_runs.specs.Events.{ticks_at}
 use Rattle.am_fetch_runs.specs.Gathering.{IsCurrent, IsTickOrHearing}
 use Rattle.am_trim_laws.specs.Trims.{HasComeToJoin}
 use Rattle.am_repair_takes.specs.Resting.{NobodyAsks}
@@ -40,14 +40,6 @@ pub data IsOfReset (place : ℕ) : Event → Type 0 where
   resets : (resilience : ℕ) → IsOfReset place (event_at place (act.Reset 1 resilience))
   gives_up : (name : ℕ) → IsOfReset place (event_at place (act.GiveUp name))
   spreads : (e : Event) → IsTickOrHearing e → IsOfReset place e
-
--- how often a place ticks
-abbrev pub is_tick : Act → Bool
-is_tick act.Tick = true
-is_tick _ = false
-
-abbrev pub ticks_at : ℕ → List Event → ℕ
-ticks_at place events = count_by (λ e. (e.node == place) && is_tick e.act) events
 
 -- in a reset its place ticks no more than so often, and no other place ticks
 pub record TicksOfReset (rules : Rules) (place : ℕ) (more : List Event) : Type 0 where

@@ -1,12 +1,13 @@
--- How often places tick in the events of a reset.
-use Rattle.am_reset_runs.proofs.Words.{◌≡◌, ℕ, zero, suc, ◌+◌, ◌≤◌, ◌==◌, ◌&&◌, Bool, true, false, if◌then◌else◌, List, [], ◌∷◌, ◌++◌, count_by, length, refl, sym, ap, ◌∙◌, arith, nat_tests, split_on_bool, place_of_name, Event, World, world_after_events}
+-- How often places tick in exchanges, and in events in turn.
+use Rattle.am_fetch_runs.proofs.Words.{◌≡◌, ℕ, zero, suc, ◌+◌, ◌≤◌, ◌==◌, Bool, true, false, List, [], ◌∷◌, ◌++◌, length, refl, sym, ap, ◌∙◌, arith, nat_tests, split_on_bool, place_of_name, Event, World}
+use Rattle.std.specs.Prelude.{◌&&◌, if◌then◌else◌, count_by}
+use Rattle.am_group_defs.specs.World.{world_after_events}
 use Rattle.std.specs.Prelude.{◌-◌}
 use Rattle.std.proofs.lemmas.List.Sums.{sum_by-append, sum_by-cons}
 use Rattle.am_group.specs.declared.event.Act.TheVariants as act
-use Rattle.am_reset_runs.proofs.Words.{event_at}
-use Rattle.am_fetch_runs.specs.Events.{exchange_events, hears_new, tick_of, asked, served}
+use Rattle.am_group_defs.specs.Settle.{event_at}
+use Rattle.am_fetch_runs.specs.Events.{is_tick, ticks_at, exchange_events, hears_new, tick_of, asked, served}
 unfoldable use Rattle.am_fetch_runs.specs.Events.{hears_from, events_of_exchanges}
-use Rattle.am_reset_runs.specs.Resetting.{is_tick, ticks_at}
 
 abbrev tick_test : ℕ → Event → Bool
 tick_test place e = (e.node == place) && is_tick e.act
