@@ -31,6 +31,7 @@ use Rattle.std.specs.Prelude.{◌/◌}
 use Rattle.am_reset_runs.proofs.Quieter.{reset_stops_nobody, nobody_asks_after_reset}
 use Rattle.am_reset_runs.proofs.Resetting.{resets_are_answered_until_last_stop}
 use Rattle.am_reset_runs.proofs.Voting.{more_rounds_are_not_less}
+use Rattle.am_reset_runs.proofs.Votes.{reset_moves}
 
 -- ---- a ballot without votes
 
@@ -113,14 +114,8 @@ module _ (w : World) (c resilience : ℕ) (may : MayResetAgain w c) where
       stays = h.leaving ∙ may.itself.stays;
     }
 
-    reset_happens : happens x e ≡ world_with_step x e c s
-    unfolding happens
-    reset_happens =
-        let runs = there.runs in
-        ap (λ name. world_after_node_event x e name (does.Reset 1 resilience)) (place_is_of_its_name x c there) ∙ rw runs refl
-
     moved : OneMoved x (happens x e) c s.node s.letters
-    moved = subst (λ (u : World). OneMoved x u c s.node s.letters) (sym reset_happens) (stepped x e c s)
+    moved = reset_moves x c resilience there
 
     once_more : ResetSoOften w (happens x e) c (many + 1)
     once_more =

@@ -17,8 +17,8 @@ use Rattle.am_repair.proofs.Repairable.OneList.{running_sequencer_has_one_list}
 use Rattle.am_reset_runs.specs.Resetting.{HasAllRunning, TicksOfReset}
 use Rattle.am_fetch_runs.proofs.Ticks.{TicksAtMost, ticks_in_turn, exchanges_tick_at}
 use Rattle.std.specs.Prelude.{◌/◌}
-use Rattle.am_model.specs.Ballots.{trim_to_least_taken_by}
 use Rattle.am_ballot_laws.specs.Following.{MayFollowVoter}
+use Rattle.am_ballot_laws.proofs.Ending.{learned_look}
 use Rattle.am_trim_laws.specs.Trims.{HasComeToJoin}
 use Rattle.am_trim_laws.proofs.Taken.{members_have_taken_trims_until_last_stop}
 use Rattle.am_repair_takes.specs.Resting.{NobodyAsks}
@@ -34,19 +34,9 @@ use Rattle.am_reset_runs.proofs.Deciding.{decided_or_no_room}
 use Rattle.am_reset_runs.proofs.Quieter.{reset_stops_nobody, stopped_stays_in_reset, nobody_asks_after_reset, nobody_leaves_after_reset}
 
 -- a look of a Member that has learned all leaves it a Member
-look_keeps_status : (m : Node) (b : Ballot) → HasLearned m b → (decide m b).node.status ≡ m.status
-unfolding decide
-look_keeps_status m b h =
-    let names = need_set_without_given_up b (need_set_of m b) in
-    split_on_bool (nat_lt (size names) b.least)
-    (λ t. rw (h.needed, h.all, h.own, t) refl)
-    (λ f. split_on_bool (nat_lt (m.core.rules.window + 16 - size names) (top m + 1 - (trim_to_least_taken_by m b names).core.base))
-    (λ t. rw (h.needed, h.all, h.own, f, t) refl)
-    (λ g. rw (h.needed, h.all, h.own, f, g) refl))
-
 looked_member : {v : World} {c : ℕ} {m : Node} {b : Ballot} → HasLearnedAll v c m b → is_member (v.nodes c).status ≡ true
 looked_member {m = m} {b = b} h = ap (λ (n : Node). is_member n.status) h.looked ∙ ap is_member (end_refresh_rests_with_list (decide m b).node).rests.status
-    ∙ ap is_member (look_keeps_status m b h.learned) ∙ h.listed
+    ∙ ap is_member (learned_look m b h.learned).1 ∙ h.listed
 
 module _ (rules : Rules) (events : List Event) (place : ℕ) (may : MayFound rules) (low : place < 16) (lawful : LawfulUntilLastStop rules events)
     (reset : MayReset (run rules events) (current (run rules events) place)) (asks : NobodyAsks (run rules events)) where

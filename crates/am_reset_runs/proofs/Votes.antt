@@ -46,6 +46,17 @@ is_waited b c k t = split_on_bool (k == c)
     (λ given. absurd (let z = rw (f, none, given) at t in cc))
     (λ kept. record { other = f; unvoted = nothing_there (b.votes k) none; kept = kept })))
 
+-- a Reset changes its own name's node alone
+pub reset_moves : (x : World) (c resilience : ℕ) → IsThereNow x c
+    → (let s = step (x.nodes c) (does.Reset 1 resilience) in OneMoved x (happens x (event_at (place_of_name c) (act.Reset 1 resilience))) c s.node s.letters)
+unfolding happens
+reset_moves x c resilience there =
+    let runs = there.runs in
+    let e = event_at (place_of_name c) (act.Reset 1 resilience) in
+    let s = step (x.nodes c) (does.Reset 1 resilience) in
+    let is : happens x e ≡ world_with_step x e c s = ap (λ name. world_after_node_event x e name (does.Reset 1 resilience)) (place_is_of_its_name x c there) ∙ rw runs refl in
+    subst (λ (u : World). OneMoved x u c s.node s.letters) (sym is) (stepped x e c s)
+
 module _ (w : World) (c : ℕ) (sound : VotersAreSound w c) (may : MayReset w c) where
   abbrev place : ℕ
   place = place_of_name c
@@ -145,14 +156,8 @@ module _ (w : World) (c : ℕ) (sound : VotersAreSound w c) (may : MayReset w c)
     there : IsThereNow w c
     there = record { now = may.itself.current_.now; runs = may.itself.current_.runs; who = sound.who c }
 
-    reset_happens : happens w e ≡ world_with_step w e c s
-    unfolding happens
-    reset_happens =
-        let runs = there.runs in
-        ap (λ x. world_after_node_event w e x (does.Reset 1 resilience)) (place_is_of_its_name w c there) ∙ rw runs refl
-
     moved : OneMoved w (happens w e) c s.node s.letters
-    moved = subst (λ (x : World). OneMoved w x c s.node s.letters) (sym reset_happens) (stepped w e c s)
+    moved = reset_moves w c resilience there
 
     may_begin : MayBegin (w.nodes c)
     may_begin = record { member = may.itself.member_; listed = ap (has (members (w.nodes c))) (sound.who c) ∙ may.listed; stays = may.itself.stays }
