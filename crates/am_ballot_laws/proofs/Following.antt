@@ -1,6 +1,6 @@
 -- What a Piece brings a coordinator that fetches.
 use Rattle.am_fetch_laws.proofs.Words.{◌≡◌, ℕ, ◌+◌, ◌-◌, ◌<◌, ◌==◌, nat_lt, true, false, Option, Some, refl, sym, ap, ◌∙◌, subst, arith, nat_tests, has, size}
-use Rattle.am_fetch_laws.proofs.Words.{Entry, Stamp, stamps_are_equal, Image, Log, top_of_log, log_entry_at, log_image_at, image_of_log, row_of_name, fits, after, Node, Ballot, top, view, image_of_node, trim_node_up_to, is_member}
+use Rattle.am_fetch_laws.proofs.Words.{Entry, Stamp, stamps_are_equal, Image, Log, top_of_log, log_entry_at, log_image_at, image_of_log, row_of_name, fits, after, Node, Ballot, top, image_of_node, trim_node_up_to}
 use Rattle.am_fetch_laws.proofs.Words.{refresh_at_end, end_refresh_rests_with_list, image_of_pushed_entry, is_unfetchable_view, MayBeStored, length-append}
 use Rattle.am_base.specs.declared.image.Vote.{Vote}
 use Rattle.am_base.specs.declared.outcome.Outcome.TheVariants as said

@@ -1,15 +1,14 @@
 -- What a coordinator and its voters do while a ballot waits for votes.
-use Rattle.am_fetch_laws.proofs.Words.{◌≡◌, ℕ, ◌==◌, true, false, List, [], ◌∷◌, Some, None, Option, refl, sym, ap, ◌∙◌, subst, arith, nat_tests, has, size, split_on_bool}
-use Rattle.am_fetch_laws.proofs.Words.{Stamp, stamps_are_equal, top_of_log, image_of_log, Letter, letter_to, Node, Ballot, Plan, view, is_member, is_sequencer, node_with_promise, finish, step, row, tick_row}
-use Rattle.am_fetch_laws.proofs.Words.{tick_by_ballot, tick_by_status, hear_packet, hear_row, set_of_one_name, refresh_at_end, stamp_eq_of_itself, plan_with_letter, letters_with_accept}
+use Rattle.am_fetch_laws.proofs.Words.{◌≡◌, ℕ, ◌==◌, true, false, List, [], ◌∷◌, Some, refl, sym, ap, ◌∙◌, subst, arith, nat_tests, has, size}
+use Rattle.am_fetch_laws.proofs.Words.{Stamp, stamps_are_equal, letter_to, Node, Ballot, Plan, is_member, is_sequencer, node_with_promise, finish, step, row, tick_row}
+use Rattle.am_fetch_laws.proofs.Words.{tick_by_ballot, tick_by_status, hear_packet, hear_row, set_of_one_name, refresh_at_end, stamp_eq_of_itself, plan_with_letter}
 use Rattle.am_fetch_laws.proofs.Words.{end_refresh_rests_with_list, is_sequencer_after_rest}
-use Rattle.std.specs.Prelude.{nat_lt, Bool, not, ◌||◌, ◌&&◌, min}
 use Rattle.am_base.specs.declared.event.NodeEvent.TheVariants as does
 use Rattle.am_base.specs.declared.image.Vote.{Vote}
 use Rattle.am_base.specs.declared.outcome.Outcome.TheVariants as said
 use Rattle.am_base.specs.Stamps.{stamp_is_less}
 use Rattle.am_packet.specs.declared.packet.Packet.TheVariants as packet
-use Rattle.am_model.specs.Ballots.{decide, plan_of_verdict, own_vote, vote_packet_of, ballot_with_vote, ballot_without_voter}
+use Rattle.am_model.specs.Ballots.{decide, own_vote, vote_packet_of, ballot_with_vote}
 unfoldable use Rattle.am_model.specs.Ballots.{begin_ballot, keep_vote_in_ballot, give_up_in_ballot}
 use Rattle.am_model.specs.Calls.{give_up_in_open_ballot}
 unfoldable use Rattle.am_model.specs.Calls.{reset_row, give_up_row}
@@ -18,12 +17,11 @@ unfoldable use Rattle.am_model.specs.Resets.{invite_row, vote_row}
 use Rattle.am_model.specs.Resets.{take_vote}
 use Rattle.am_model.specs.Ticks.{tick_of_coordinator}
 use Rattle.am_model.proofs.Sets.{set_with_name_has_size}
-use Rattle.am_step_laws.specs.Looks.{MayBegin}
-use Rattle.am_fetch_laws.specs.Exchanges.{TwoNodes, Heard, exchange, hear_letters}
+use Rattle.am_fetch_laws.specs.Exchanges.{Heard, hear_letters}
 use Rattle.am_fetch_laws.proofs.Asking.{one_name_is_there, one_name_is_somebody, status_of_member}
 use Rattle.am_fetch_laws.proofs.Exchanged.{hears_one}
 use Rattle.am_ballot_laws.proofs.Fetching.{promised_leads_not}
-use Rattle.am_ballot_laws.specs.Voting.{ResetsLook, Coordinates, GiveUpsLook, Invites, CoordinatorsInvite, VotesLook, MayVote, Votes, InvitesAreVoted, WaitsForVoter, voted, VotersAreHeard}
+use Rattle.am_ballot_laws.specs.Voting.{ResetsLook, Coordinates, GiveUpsLook, Invites, CoordinatorsInvite, VotesLook, MayVote, Votes, InvitesAreVoted, voted, VotersAreHeard}
 
 -- a stamp isn't less than itself
 no_stamp_is_less_than_itself : (v : Stamp) → stamp_is_less v v ≡ false

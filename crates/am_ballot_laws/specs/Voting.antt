@@ -14,7 +14,7 @@ use Rattle.am_model.specs.Node.{Node, Ballot, view, is_member, set_of_one_name}
 use Rattle.am_model.specs.Refresh.{refresh_at_end}
 use Rattle.am_model.specs.Step.{step, hear_packet}
 use Rattle.am_step_laws.specs.Looks.{MayBegin}
-use Rattle.am_fetch_laws.specs.Exchanges.{TwoNodes, exchange}
+use Rattle.am_fetch_laws.specs.Exchanges.{exchange}
 
 -- a Reset begins a ballot of the next stamp of the node's own, and looks at it
 abbrev pub ResetsLook : Type 0

@@ -1,12 +1,10 @@
 -- A member resets again and again, until nobody has promised more than it has.
-use Rattle.am_reset_runs.proofs.Words.{◌≡◌, ◌⊎◌, inl, inr, ℕ, zero, suc, ◌+◌, ◌<◌, ◌≤◌, ◌==◌, nat_lt, true, false, List, [], ◌∷◌, ◌++◌, None, refl, sym, ap, ◌∙◌, subst, arith, nat_tests, All, All-nil, All-cons, All-append}
-use Rattle.am_reset_runs.proofs.Words.{split_on_bool, eqb-true, Rules, MayFound, place_of_name, has, size, Event, Node, Ballot, Log, image_of_log, members_of_image, members, is_member, stamp_is_less, node_with_promise, next_stamp, step, refresh_at_end}
-use Rattle.am_reset_runs.proofs.Words.{end_refresh_rests_with_list, World, current, is_stopped, run, start, world_with_step, world_after_events, runs_go_on, event_at, need_set_of, is_waited_for, new_ballot, names_that_pass, decide}
+use Rattle.am_reset_runs.proofs.Words.{◌≡◌, inl, inr, ℕ, zero, suc, ◌+◌, ◌<◌, ◌≤◌, ◌==◌, nat_lt, true, false, List, [], ◌∷◌, ◌++◌, None, refl, sym, ap, ◌∙◌, subst, arith, nat_tests, All, All-nil, All-cons, All-append}
+use Rattle.am_reset_runs.proofs.Words.{split_on_bool, eqb-true, place_of_name, has, size, Event, Node, Ballot, Log, image_of_log, members_of_image, members, is_member, stamp_is_less, node_with_promise, next_stamp, step, refresh_at_end}
+use Rattle.am_reset_runs.proofs.Words.{end_refresh_rests_with_list, World, current, is_stopped, run, start, world_after_events, runs_go_on, event_at, need_set_of, is_waited_for, new_ballot, names_that_pass, decide}
 use Rattle.am_reset_runs.proofs.Words.{IsCurrent, MayVoteFor, MayReset, IsOfReset, resets, ResetEnds}
 use Rattle.std.specs.Prelude.{max, min}
 unfoldable use Rattle.am_group_defs.specs.World.{happens, world_after_events as world_after}
-use Rattle.am_group_defs.specs.World.{world_after_node_event}
-use Rattle.am_group_defs.specs.Lawful.{lawful_front}
 use Rattle.am_base.specs.declared.event.NodeEvent.TheVariants as does
 use Rattle.am_group.specs.declared.event.Act.TheVariants as act
 unfoldable use Rattle.am_model.specs.Ballots.{best_vote_for_ballot}
@@ -22,7 +20,7 @@ use Rattle.am_repair.proofs.RepairWords.{append_assoc}
 use Rattle.am_step_laws.proofs.Stamps.{stamp_not_below_itself}
 use Rattle.am_trim_laws.specs.Trims.{HasComeToJoin}
 use Rattle.am_lawful_runs.proofs.Spared.{lawful_is_until_last_stop, goes_on_without_stops}
-use Rattle.am_fetch_runs.proofs.Events.{IsThereNow, OneMoved, stepped, there_after, place_is_of_its_name}
+use Rattle.am_fetch_runs.proofs.Events.{IsThereNow, OneMoved}
 use Rattle.am_repair_takes.specs.Resting.{NobodyAsks}
 use Rattle.am_reset_runs.specs.Resetting.{MayVote, MayResetAgain, RepeatedResetsAreAnswered}
 use Rattle.am_reset_runs.proofs.Come.{come_stays}

@@ -1,12 +1,12 @@
 -- A member that has come to its Join stays so.
-use Rattle.am_reset_runs.proofs.Words.{◌≡◌, ℕ, ◌+◌, ◌≤◌, ◌==◌, true, false, List, [], ◌∷◌, refl, sym, ap, ◌∙◌, subst, arith, split_on_bool, eqb-true, Event, Node, Ballot, BallotVerdict, LooksAtBallot, is_member, World, world_after_events}
+use Rattle.am_reset_runs.proofs.Words.{◌≡◌, ℕ, ◌≤◌, ◌==◌, true, List, [], ◌∷◌, sym, subst, arith, split_on_bool, eqb-true, Event, Node, Ballot, BallotVerdict, LooksAtBallot, is_member, World, world_after_events}
 use Rattle.am_repair.proofs.RepairWords.{Cause, Outcome, Change, Changes, changed, refreshes, settles, begins_list, looks, closes, push_entry, Leave, refresh_rests_with_list, end_refresh_rests_with_list, settle_changes_only_sends}
 use Rattle.am_repair.proofs.RepairWords.{has_log_by_status, EventHappens, steps, events_have_effects, acting_name, happens, world_with_step, world_with_record}
 unfoldable use Rattle.am_group_defs.specs.World.{world_after_events as world_after}
 use Rattle.am_step_laws.proofs.Words.{unchanged, member_status_has_log}
 use Rattle.am_step_laws.proofs.ViewChanges.{welcomed_node_has_no_log}
 use Rattle.am_step_laws.specs.Looks.{finds_itself_out}
-use Rattle.am_repair_takes.proofs.Starts.{BeginsAsBefore, changes_before}
+use Rattle.am_repair_takes.proofs.Starts.{changes_before}
 use Rattle.am_trim_laws.specs.Trims.{HasComeToJoin}
 
 -- what a node's application has taken rises

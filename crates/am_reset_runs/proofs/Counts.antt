@@ -1,5 +1,5 @@
 -- Whom a ballot waits for, and how many names it hasn't heard of.
-use Rattle.am_reset_runs.proofs.Words.{◌≡◌, ℕ, zero, suc, ◌+◌, ◌<◌, ◌≤◌, ◌==◌, not, nat_lt, Bool, true, false, if◌then◌else◌, List, [], ◌∷◌, length, slice_index, list_any, count_by, count_by_of_cons}
+use Rattle.am_reset_runs.proofs.Words.{◌≡◌, ℕ, suc, ◌+◌, ◌<◌, ◌≤◌, ◌==◌, nat_lt, Bool, true, false, if◌then◌else◌, List, [], ◌∷◌, length, slice_index, list_any, count_by, count_by_of_cons}
 use Rattle.am_reset_runs.proofs.Words.{refl, ap, ◌∙◌, arith, nat_tests, split_on_bool, place_of_name, life_of_name, has, size, names_that_pass}
 use Rattle.std.specs.List.{range_with_len}
 use Rattle.am_base.specs.Names.{name_of_place_and_life, list_by_place}

@@ -4,7 +4,7 @@ use Rattle.am_reset_runs.proofs.Words.{has, size, Stamp, stamp_is_less, stamps_a
 use Rattle.am_reset_runs.proofs.Words.{refresh_at_end, end_refresh_rests_with_list, World, current, need_set_of, need_set_without_given_up, decide, HasNoRoom, place_of_name, life_of_name}
 use Rattle.am_reset_runs.proofs.Parts.{HasLearnedAll, IsReady, TrimsTaken, HasRoomForMembers}
 use Rattle.am_reset_runs.proofs.Counts.{sixteen_that_pass, selection_is_smaller}
-use Rattle.am_reset_runs.proofs.Words.{◌≤◌, Some, Rules}
+use Rattle.am_reset_runs.proofs.Words.{Some, Rules}
 use Rattle.std.proofs.lemmas.Bool.{cases_lt}
 use Rattle.am_safety.proofs.Fits.{set_size_le_length}
 use Rattle.am_step_laws.proofs.Trimming.Taken.{own_best_list_needs_members}

@@ -1,17 +1,17 @@
 -- Where the coordinator fetches, exchanges with the best vote's name bring it what that has shown, and then it has learned all.
-use Rattle.am_reset_runs.proofs.Words.{◌≡◌, ◌≢◌, inl, inr, ℕ, ◌+◌, ◌<◌, ◌≤◌, ◌==◌, not, nat_lt, true, false, List, Option, Some, None, refl, sym, ap, ◌∙◌, subst, arith, nat_tests}
-use Rattle.am_reset_runs.proofs.Words.{split_on_bool, eqb-true, place_of_name, has, size, Stamp, Log, top_of_log, image_of_log, members_of_image, Image, Event, Node, Ballot, top, view, members, is_member}
-use Rattle.am_reset_runs.proofs.Words.{World, current, is_stopped, world_after_events, Vote, NamedVote, own_vote, need_set_of, is_waited_for, need_set_without_given_up, best_vote_for_ballot, names_that_pass, HasLearned, IsCurrent, MayVoteFor, MayReset}
-use Rattle.std.specs.Prelude.{◌*◌, ◌-◌, ◌/◌}
+use Rattle.am_reset_runs.proofs.Words.{◌≡◌, inl, inr, ℕ, ◌+◌, ◌<◌, ◌≤◌, ◌==◌, nat_lt, true, false, List, Some, None, sym, ap, ◌∙◌, subst, arith}
+use Rattle.am_reset_runs.proofs.Words.{split_on_bool, eqb-true, place_of_name, has, size, Stamp, Log, image_of_log, members_of_image, Image, Event, Node, Ballot, top, is_member}
+use Rattle.am_reset_runs.proofs.Words.{World, current, is_stopped, world_after_events, Vote, own_vote, need_set_of, is_waited_for, need_set_without_given_up, best_vote_for_ballot, names_that_pass, IsCurrent, MayVoteFor, MayReset}
+use Rattle.std.specs.Prelude.{◌-◌, ◌/◌}
 use Rattle.am_model_laws.specs.Laws.{IsBestVote}
 use Rattle.am_model_laws.proofs.BestVotes.{best_vote_is_greatest}
 use Rattle.am_fetch_laws.specs.Exchanges.{TwoNodes, exchanges}
 use Rattle.am_ballot_laws.specs.Following.{LooksAtWhole, MayFollowVoter, fetching_ballot}
 use Rattle.am_ballot_laws.proofs.Exchanged.{RestsAsVoter, exchanges_reach_whole_of_voter}
 use Rattle.am_fetch_runs.specs.Events.{events_of_exchanges}
-use Rattle.am_fetch_runs.proofs.Events.{IsThereNow, BothAreThere, ExchangedSoOften, two_of, exchanges_happen}
+use Rattle.am_fetch_runs.proofs.Events.{IsThereNow, ExchangedSoOften, two_of, exchanges_happen}
 use Rattle.am_trim_laws.specs.Trims.{HasComeToJoin}
-use Rattle.am_reset_runs.proofs.Parts.{stamp_of_reset, VotersAreSound, HasVoted, VotesCome, IsReady, HasLearnedAll}
+use Rattle.am_reset_runs.proofs.Parts.{VotersAreSound, HasVoted, VotesCome, IsReady, HasLearnedAll}
 use Rattle.am_reset_runs.proofs.Voting.{unvoted}
 use Rattle.am_reset_runs.proofs.Heard as heard
 

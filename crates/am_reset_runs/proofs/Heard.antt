@@ -1,15 +1,15 @@
 -- Once nobody is waited for, the coordinator has learned all that its ballot needs, or fetches from the best vote's name.
-use Rattle.am_reset_runs.proofs.Words.{◌≡◌, ◌≢◌, inl, inr, ◌⊎◌, ℕ, ◌+◌, ◌<◌, ◌==◌, not, nat_lt, true, false, List, [], ◌∷◌, Option, Some, None, is_some, refl, sym, ap, ◌∙◌, subst, arith, nat_tests}
-use Rattle.am_reset_runs.proofs.Words.{split_on_bool, eqb-true, place_of_name, has, size, Stamp, Log, top_of_log, image_of_log, members_of_image, Node, Ballot, top, view, members, is_member, refresh_at_end, end_refresh_rests_with_list}
+use Rattle.am_reset_runs.proofs.Words.{◌≡◌, inl, inr, ℕ, ◌+◌, ◌==◌, not, nat_lt, true, false, List, [], ◌∷◌, Option, Some, None, refl, sym, ap, ◌∙◌, subst}
+use Rattle.am_reset_runs.proofs.Words.{split_on_bool, place_of_name, has, size, Stamp, Log, top_of_log, image_of_log, members_of_image, Node, Ballot, top, is_member, refresh_at_end, end_refresh_rests_with_list}
 use Rattle.am_reset_runs.proofs.Words.{World, current, is_stopped, Vote, NamedVote, vote_is_less, own_vote, need_set_of, is_waited_for, need_set_without_given_up, ballot_with_answer, decide, best_vote_for_ballot, names_that_pass}
-use Rattle.am_reset_runs.proofs.Words.{given_vote_is_some, unawaited_name_has_voted, needed_name_is_not_awaited, those_in, HasLearned, IsCurrent, MayVoteFor, MayReset}
+use Rattle.am_reset_runs.proofs.Words.{given_vote_is_some, unawaited_name_has_voted, needed_name_is_not_awaited, those_in, IsCurrent, MayVoteFor, MayReset}
 use Rattle.am_base.specs.Votes.{better_vote_of}
 unfoldable use Rattle.am_base.specs.Votes.{best_vote_from}
 use Rattle.am_base.specs.Votes.{all_names}
 use Rattle.am_base.specs.declared.outcome.Outcome.TheVariants as said
 use Rattle.am_fetch_runs.specs.Ballots.{FetchesFromVoter}
 use Rattle.am_trim_laws.specs.Trims.{HasComeToJoin}
-use Rattle.am_reset_runs.proofs.Parts.{stamp_of_reset, VotersAreSound, HasVoted, VotesCome, IsReady, HasLearnedAll, TrimsTaken}
+use Rattle.am_reset_runs.proofs.Parts.{VotersAreSound, HasVoted, VotesCome, IsReady, HasLearnedAll, TrimsTaken}
 use Rattle.am_reset_runs.proofs.Voting.{itself_is_needed, is_best, views_below, unvoted, itself_is_equal}
 
 -- ---- the best vote, whatever the coordinator has taken

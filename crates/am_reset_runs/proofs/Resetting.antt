@@ -1,8 +1,7 @@
 -- A reset ends with a view whose members have all that they sent answered, or its View has no room.
-use Rattle.am_reset_runs.proofs.Words.{◌≡◌, ◌⊎◌, inl, inr, ℕ, ◌+◌, ◌-◌, ◌<◌, ◌≤◌, ◌==◌, nat_lt, true, false, List, ◌++◌, refl, sym, ap, ◌∙◌, subst, arith, All, All-append, split_on_bool, Rules, MayFound, place_of_name, Event, Node, Ballot, is_member}
-use Rattle.am_reset_runs.proofs.Words.{World, current, is_stopped, run, start, world_after_events, runs_go_on, best_vote_for_ballot, need_set_of, need_set_without_given_up, HasLearned, decide, end_refresh_rests_with_list, Vote, size, top, MayVoteFor, MayReset, IsOfReset, HasNoRoom, ResetEnds, ResetsAreAnswered}
+use Rattle.am_reset_runs.proofs.Words.{◌≡◌, inl, inr, ℕ, ◌+◌, ◌<◌, ◌≤◌, ◌==◌, true, false, List, ◌++◌, sym, ap, ◌∙◌, subst, arith, All, All-append, split_on_bool, Rules, MayFound, place_of_name, Event, Node, Ballot, is_member}
+use Rattle.am_reset_runs.proofs.Words.{World, current, is_stopped, run, start, world_after_events, runs_go_on, best_vote_for_ballot, decide, end_refresh_rests_with_list, Vote, size, top, MayVoteFor, MayReset, IsOfReset, HasNoRoom, ResetEnds, ResetsAreAnswered}
 use Rattle.am_lawful_runs.proofs.Spared.{LawfulUntilLastStop, lawful_is_until_last_stop, goes_on_without_stops}
-use Rattle.am_group_defs.specs.Lawful.{lawful_front}
 use Rattle.am_repair.proofs.Repairable.RepairedWords.{names_hold_in_runs, member_has_not_departed}
 use Rattle.am_fetch_runs.specs.Ballots.{FetchesFromVoter}
 use Rattle.am_fetch_runs.proofs.Gathering.{exchanges_are_of_such}
@@ -24,7 +23,7 @@ use Rattle.am_trim_laws.proofs.Taken.{members_have_taken_trims_until_last_stop}
 use Rattle.am_repair_takes.specs.Resting.{NobodyAsks}
 use Rattle.am_repair_fetches.specs.Rest.{IsDecidedAnew}
 use Rattle.am_repair_fetches.proofs.Answered.{decided_views_are_answered_until_last_stop}
-use Rattle.am_reset_runs.proofs.Parts.{VotersAreSound, HasVoted, VotesCome, HasLearnedAll, TrimsTaken, HasRoomForMembers}
+use Rattle.am_reset_runs.proofs.Parts.{VotersAreSound, HasVoted, HasLearnedAll, TrimsTaken, HasRoomForMembers}
 use Rattle.am_reset_runs.proofs.Sound.{voters_are_sound}
 use Rattle.am_reset_runs.proofs.Votes.{VotesEnd, votes_end_after_reset, spread_events}
 use Rattle.am_reset_runs.proofs.Heard as heard

@@ -1,7 +1,7 @@
 -- A reset begins a ballot, and then votes come until nobody is waited for.
-use Rattle.am_reset_runs.proofs.Words.{◌≡◌, inl, inr, ℕ, zero, suc, ◌+◌, ◌<◌, ◌≤◌, ◌==◌, not, nat_lt, true, false, List, [], ◌∷◌, ◌++◌, Option, Some, None, is_some, refl, sym, ap, ◌∙◌, subst, arith, nat_tests}
-use Rattle.am_reset_runs.proofs.Words.{All, All-nil, All-cons, All-append, split_on_bool, place_of_name, has, size, members, Event, Node, Ballot, node_with_promise, step, refresh_at_end, World, is_stopped, world_with_step, runs_go_on, event_at}
-use Rattle.am_reset_runs.proofs.Words.{Vote, need_set_of, is_waited_for, new_ballot, names_that_pass, those_in, MayVoteFor, MayReset, IsOfReset, IsTickOrHearing, resets, gives_up, spreads}
+use Rattle.am_reset_runs.proofs.Words.{◌≡◌, inl, inr, ℕ, zero, suc, ◌+◌, ◌<◌, ◌≤◌, ◌==◌, not, nat_lt, true, false, List, [], ◌∷◌, ◌++◌, Option, Some, None, is_some, refl, sym, ap, ◌∙◌, subst, arith}
+use Rattle.am_reset_runs.proofs.Words.{All, All-nil, All-cons, All-append, split_on_bool, place_of_name, has, size, members, Event, Node, Ballot, node_with_promise, step, refresh_at_end, World, world_with_step, runs_go_on, event_at}
+use Rattle.am_reset_runs.proofs.Words.{Vote, need_set_of, is_waited_for, new_ballot, names_that_pass, those_in, MayReset, IsOfReset, IsTickOrHearing, resets, gives_up, spreads}
 use Rattle.std.specs.Prelude.{min}
 unfoldable use Rattle.am_group_defs.specs.World.{happens, world_after_events}
 use Rattle.am_group_defs.specs.World.{world_after_node_event}

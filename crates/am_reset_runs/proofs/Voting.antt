@@ -1,9 +1,9 @@
 -- One vote after the other comes, or a name that has stopped is given up, until nobody is waited for.
-use Rattle.am_reset_runs.proofs.Words.{◌≡◌, ◌≢◌, inl, inr, ◌⊎◌, ℕ, zero, suc, ◌+◌, ◌<◌, ◌≤◌, ◌==◌, not, nat_lt, true, false, List, [], ◌∷◌, ◌++◌, count_by, Option, Some, None, is_some, refl, sym, ap, ◌∙◌, subst, arith, nat_tests}
-use Rattle.am_reset_runs.proofs.Words.{All, All-nil, All-cons, All-append, split_on_bool, eqb-true, place_of_name, has, size, Stamp, stamp_is_less, stamps_are_equal, Log, top_of_log, image_of_log, members_of_image, Event}
-use Rattle.am_reset_runs.proofs.Words.{Node, Ballot, top, view, members, is_member, node_with_promise, step, refresh_at_end, end_refresh_rests_with_list, World, current, is_stopped, world_with_step, runs_go_on, event_at}
-use Rattle.am_reset_runs.proofs.Words.{Vote, NamedVote, vote_is_less, own_vote, need_set_of, is_waited_for, ballot_with_answer, ballot_with_vote, ballot_without_voter, decide, best_vote_for_ballot, names_that_pass, those_in}
-use Rattle.am_reset_runs.proofs.Words.{Coordinates, WaitsForVoter, voted, IsCurrent, MayVoteFor, MayReset, IsOfReset, gives_up, spreads}
+use Rattle.am_reset_runs.proofs.Words.{◌≡◌, ◌≢◌, inl, inr, ◌⊎◌, ℕ, ◌+◌, ◌<◌, ◌≤◌, ◌==◌, not, nat_lt, true, false, List, [], count_by, Option, Some, None, is_some, refl, sym, ap, ◌∙◌, subst, arith, nat_tests}
+use Rattle.am_reset_runs.proofs.Words.{split_on_bool, eqb-true, place_of_name, has, size, Stamp, stamp_is_less, stamps_are_equal, Log, top_of_log, image_of_log, members_of_image, Event}
+use Rattle.am_reset_runs.proofs.Words.{Node, Ballot, view, members, is_member, node_with_promise, step, refresh_at_end, end_refresh_rests_with_list, World, current, is_stopped, world_with_step, event_at}
+use Rattle.am_reset_runs.proofs.Words.{Vote, vote_is_less, own_vote, need_set_of, is_waited_for, ballot_with_answer, ballot_with_vote, ballot_without_voter, decide, best_vote_for_ballot, names_that_pass}
+use Rattle.am_reset_runs.proofs.Words.{Coordinates, WaitsForVoter, voted, MayVoteFor, MayReset}
 use Rattle.am_group_defs.specs.World.{world_after_give_up}
 unfoldable use Rattle.am_group_defs.specs.World.{happens, world_after_events}
 use Rattle.am_base.specs.declared.event.NodeEvent.TheVariants as does
@@ -11,17 +11,15 @@ use Rattle.am_base.specs.declared.outcome.Outcome.TheVariants as said
 use Rattle.am_group.specs.declared.event.Act.TheVariants as act
 use Rattle.am_abstract_group.proofs.Puts.{count_le_of_weaker_test, count_lt_of_weaker_test}
 use Rattle.am_abstract_group.specs.Group.{count_of_passing_below}
-use Rattle.am_model.specs.Ballots.{verdict_going_on}
 use Rattle.am_model_laws.specs.Laws.{IsBestVote}
 use Rattle.am_model_laws.proofs.BestVotes.{best_vote_is_greatest}
-use Rattle.am_fetch_laws.specs.Exchanges.{TwoNodes, exchange}
+use Rattle.am_fetch_laws.specs.Exchanges.{TwoNodes}
 unfoldable use Rattle.am_fetch_laws.specs.Exchanges.{exchanges}
 use Rattle.am_ballot_laws.proofs.Voting.{give_ups_look, voters_are_heard, coordinates_after_end}
 use Rattle.am_fetch_runs.specs.Events.{events_of_exchanges}
-use Rattle.am_fetch_runs.proofs.Events.{IsThereNow, BothAreThere, OneMoved, stepped, there_after, place_is_of_its_name, two_of, exchanges_happen}
-use Rattle.am_fetch_runs.proofs.Gathering.{exchanges_are_of_such}
+use Rattle.am_fetch_runs.proofs.Events.{IsThereNow, BothAreThere, OneMoved, stepped, place_is_of_its_name, two_of, exchanges_happen}
 use Rattle.am_reset_runs.proofs.Parts.{stamp_of_reset, VotersAreSound, HasVoted, VotesCome}
-use Rattle.am_reset_runs.proofs.Counts.{somebody_is_in, sixteen_that_pass, count_le_of_weaker, count_lt_of_weaker}
+use Rattle.am_reset_runs.proofs.Counts.{count_lt_of_weaker}
 
 -- ---- stamps
 

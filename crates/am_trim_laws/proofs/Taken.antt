@@ -1,5 +1,5 @@
 -- So it is in every lawful run: each base was taken by each Member that runs and isn't leaving, or is below its Join.
-use Rattle.am_repair.proofs.Repairable.RepairedWords.{◌≡◌, ℕ, ◌<◌, ◌≤◌, ◌==◌, ◌-◌, max, true, false, None, List, length, take, refl, sym, ap, ◌∙◌, subst, arith, eqb-true, All-nil, All-weaker}
+use Rattle.am_repair.proofs.Repairable.RepairedWords.{◌≡◌, ℕ, ◌<◌, ◌≤◌, ◌==◌, ◌-◌, max, true, false, List, length, take, refl, sym, ap, ◌∙◌, subst, arith, eqb-true, All-nil, All-weaker}
 use Rattle.am_repair.proofs.Repairable.RepairedWords.{Rules, MayFound, Event, Group, Node, World, is_stopped, is_sequencer, has_departed, run, start, first_node, has, members, split_on_bool, is_member_at_end, members_of_image}
 use Rattle.am_repair.proofs.Repairable.RepairedWords.{item_of_index_has_property, member_status_has_log, member_has_not_departed, lawful_front, steps_are_group_moves, GroupKeeps, group_run_is_kept, lowest_name_or_zero, Following}
 use Rattle.am_repair.proofs.Repairable.RepairedWords.{PropertyIsKeptByRuns, WorldStaysQuiet, known_is_taken, sequencers_trim_known, end_keeps_reports_of_others, end_refresh_rests_with_list, run_trims_only_taken}
