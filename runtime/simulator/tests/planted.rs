@@ -79,9 +79,10 @@ fn a_letter_that_goes_out_before_its_line() {
         plan.send_every = 5_000;
         let (back, twin) = (Some(100_000), false);
         let places = plan.founding.founders.len() as u64;
+        // not a multiple of `send_every`, so each crash comes at another moment of a sending
         let crash = |k: u64| {
             let place = (k % places) as u8;
-            (300_000 + 150_000 * k, place, Act::Crash { back, twin })
+            (300_000 + 150_397 * k, place, Act::Crash { back, twin })
         };
         plan.acts = (0..12).map(crash).collect();
     });
